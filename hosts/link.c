@@ -1,4 +1,4 @@
-/* link: the mailbox of docs/PORTING.md over a way that loses frames. Cores go on, off and to sleep by
+/* link: the mailbox of docs/port/PORTING.md over a way that loses frames. Cores go on, off and to sleep by
  * chance; each frame is lost by chance, both ways; a timer sends again what is outstanding. First the
  * mailbox has a place for each core and one for the system, each way, then it is a ring that drops what
  * comes when it is full. Prints whether all was acknowledged in the end. */

@@ -1,5 +1,5 @@
 /* A machine of four cores in two clusters that is played, with the firmware and the power controller of
- * the library: what the hosts have in common that try docs/PORTING.md one rule at a time. */
+ * the library: what the hosts have in common that try docs/port/PORTING.md one rule at a time. */
 #ifndef MACHINE_H
 #define MACHINE_H
 

@@ -1,4 +1,4 @@
-/* named MACHINE SCRIPT: plays a script in the words of a machine, whose text (docs/FORMATS.md) the
+/* named MACHINE SCRIPT: plays a script in the words of a machine, whose text (docs/port/FORMATS.md) the
  * library gets as structs. A core has its MPIDR, and a call its registers. Writes the answer lines of
  * `./psci replay --machine`, where the library answers as the program does. A machine that does not
  * open is told by its number. */

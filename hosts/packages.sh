@@ -11,7 +11,7 @@ of_release() {
         trixie) kernels='image-6.12.[0-9]+[+]deb13' xen=4.20 ;;
         trixie-backports) kernels='binary-7.[0-9]+.[0-9]+[+]deb13' xen=4.20 ;;
         sid) ;;
-        *) stop "there is no release $1; there are bookworm, trixie, trixie-backports and sid" ;;
+        *) stop "unknown release $1; expected bookworm, trixie, trixie-backports or sid" ;;
     esac
     release=$1 cache=${cache%/"$1"}/$1
 }
@@ -30,7 +30,7 @@ Dir::State::Lists "$apt/lists"; Dir::State::Status "$apt/status"; Dir::Cache "$a
 APT::Architecture "arm64"; APT::Architectures { "arm64"; }; APT::Sandbox::User "$(id -un)";
 CONF
     export APT_CONFIG=$apt/conf
-    apt-get update -qq || stop "the package lists of $mirror can't be had"
+    apt-get update -qq || stop "cannot download the package lists of $mirror"
 }
 
 has_guest() {
@@ -47,8 +47,8 @@ fetch_guest() {
     for image in $(apt-cache search --names-only "$wanted" | sed 's/ .*//' | sort -rV); do
         ! apt-get download -qq "$image" 2> /dev/null || { have=$image; break; } # a mirror may lack what its lists name
     done
-    [ -n "$have" ] || stop "no package $wanted can be had"
-    apt-get download -qq busybox-static || stop "no package busybox-static of arm64 can be had"
+    [ -n "$have" ] || stop "no package $wanted to download"
+    apt-get download -qq busybox-static || stop "cannot download busybox-static of arm64"
     for image in "$have"_*.deb busybox-static*.deb; do dpkg-deb -x "$image" packages; done
     mkdir -p packages/bin packages/boot
     [ -e packages/bin/busybox ] || ln -s ../usr/bin/busybox packages/bin/busybox # there it is from trixie on
@@ -56,6 +56,24 @@ fetch_guest() {
         [ ! -e "$image" ] || ln -s "../${image#packages/}" "packages/boot/vmlinuz-$(basename "$(dirname "$image")")"
     done
     cd - > /dev/null
+}
+
+has_trees() { compgen -G "$cache/trees/boot/vmlinuz-*" > /dev/null; }
+
+# Debian's kernel for arm64 that has drivers of boards, and the device trees of these, into $cache/trees.
+fetch_trees() {
+    local image
+    mkdir -p "$cache/trees/packages"
+    cd "$cache/trees/packages"
+    own_apt
+    image=$(apt-cache search --names-only '^linux-image-6.1.0-[0-9]+-arm64$' | sort -V | tail -n 1)
+    say "downloading ${image%% *} with its device trees (70 MB)"
+    apt-get download -qq "${image%% *}" && dpkg-deb -x "${image%% *}"_*.deb unpacked ||
+        stop "the package ${image%% *} can't be had"
+    rm -rf ../usr ../boot
+    mv unpacked/usr unpacked/boot ..
+    cd - > /dev/null
+    rm -rf "$cache/trees/packages"
 }
 
 has_kexec() { [ -e "$cache/kexec/fetched" ]; }
@@ -69,7 +87,7 @@ fetch_kexec() {
     own_apt
     say "downloading kexec and its libraries (4 MB)"
     for package in "${packages[@]}"; do
-        apt-get download -qq "$package" || stop "no package $package of arm64 can be had"
+        apt-get download -qq "$package" || stop "cannot download $package of arm64"
         dpkg-deb -x "${package}"_*.deb .
     done
     touch fetched
@@ -104,7 +122,7 @@ fetch_tfa() {
     own_apt
     say "downloading TF-A's source of $release (5 MB)"
     apt-get source -qq --download-only arm-trusted-firmware ||
-        stop "the source package arm-trusted-firmware can't be had"
+        stop "cannot download the source package arm-trusted-firmware"
     dpkg-source -x arm-trusted-firmware_*.dsc unpacked > unpacked.log 2>&1 ||
         stop "see $cache/tfa/unpacked.log"
     mv unpacked source

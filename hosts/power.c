@@ -1,4 +1,4 @@
-/* power: what docs/PORTING.md says of the power hardware, of the board that both sides share, and of a way
+/* power: what docs/port/PORTING.md says of the power hardware, of the board that both sides share, and of a way
  * that alters bytes, tried. Prints what was seen. */
 #include "machine.h"
 

@@ -1,4 +1,4 @@
-/* resets: what docs/PORTING.md says of resets and of caches, tried. A reset cuts a core in the middle of
+/* resets: what docs/port/PORTING.md says of resets and of caches, tried. A reset cuts a core in the middle of
  * a call here by a signal that does not come back; caches are played by two images of the memory that
  * the firmware stands in. Prints what was seen. */
 #define _XOPEN_SOURCE 700

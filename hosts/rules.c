@@ -1,4 +1,4 @@
-/* rules: what docs/PORTING.md has a port do beside the calls, tried one rule after the other. Prints
+/* rules: what docs/port/PORTING.md has a port do beside the calls, tried one rule after the other. Prints
  * what was seen of each. */
 #include "machine.h"
 

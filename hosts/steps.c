@@ -1,7 +1,7 @@
 /* steps: a reset after each single instruction of a call, by the processor's trap flag (x86-64): the call is cut behind
  * its first instruction, in the next life behind its second, and so on until it comes through. Behind each cut every
  * place still holds what it held: no call but those that open and close takes anything out of its place. Then what
- * docs/PORTING.md says of a reset is done, and the next life has to begin; where the call that is cut is one of the
+ * docs/port/PORTING.md says of a reset is done, and the next life has to begin; where the call that is cut is one of the
  * power controller, both sides are reset cold. They are some 10,000 lives, which hangs on the compiler. */
 #define _GNU_SOURCE
 #include "machine.h"

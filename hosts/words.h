@@ -1,4 +1,4 @@
-/* A machine text (docs/FORMATS.md) as the structs of psci.h. */
+/* A machine text (docs/port/FORMATS.md) as the structs of psci.h. */
 #ifndef WORDS_H
 #define WORDS_H
 

@@ -1,5 +1,5 @@
 /* A firmware of yours, or an emulation of one, beside the proved library, call by call in one process
- * (docs/BESIDE.md). A user compiles one file, hosts/beside/beside.c, and links the archive with a heap
+ * (docs/compare/BESIDE.md). A user compiles one file, hosts/beside/beside.c, and links the archive with a heap
  * (hosts/pool.c). It allocates nothing after the opening, and knows of no fuzzer, so that a unit test
  * can use it (tests/beside-unit.c). */
 #ifndef GUMDARTS_PSCI_BESIDE_H
@@ -78,7 +78,7 @@ struct psci_beside_peer {
     bool (*wake)(void *self, uint32_t core, uint32_t cause);
 };
 
-/* What a firmware declares of itself: the text of docs/JUDGE.md, which hosts/beside/profile writes as
+/* What a firmware declares of itself: the text of docs/compare/JUDGE.md, which hosts/beside/profile writes as
  * one of these. */
 #define PSCI_BESIDE_MOST 64
 struct psci_beside_state {

@@ -1,5 +1,5 @@
 /* The power controller for C, in the archive of the firmware (libpsci_ffi.a). A
- * program may use both halves or one alone. docs/PORTING.md says what a port gives and gets. Calls on
+ * program may use both halves or one alone. docs/port/PORTING.md says what a port gives and gets. Calls on
  * one place may not overlap: hold a lock around each. */
 #ifndef GUMDARTS_PSCI_CTL_H
 #define GUMDARTS_PSCI_CTL_H

@@ -1,4 +1,4 @@
-"""Frames of messages and acknowledgements, from docs/FORMATS.md alone: how each is spelled in bytes, the
+"""Frames of messages and acknowledgements, from docs/port/FORMATS.md alone: how each is spelled in bytes, the
 first fault of bytes that are none, and what a frame says."""
 from firmware import Ack, Message
 
@@ -39,7 +39,7 @@ def parts_in(frame, count):
 
 
 def first_fault(frame, board):
-    """The number of the first fault in the table of docs/FORMATS.md, or None where there is none."""
+    """The number of the first fault in the table of docs/port/FORMATS.md, or None where there is none."""
     if len(frame) != LENGTH:
         return 1
     if frame[:2] != MAGIC:

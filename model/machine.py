@@ -1,6 +1,6 @@
 """The text of a machine, its faults, and what the firmware is asked for its calls.
 
-Written from docs/FORMATS.md. `Machine` reads a text, `fault` finds the first fault of what it says, and
+Written from docs/port/FORMATS.md. `Machine` reads a text, `fault` finds the first fault of what it says, and
 `asked` says of a call which registers the firmware is called with, and what else is asked. `Caller` answers
 a script of a machine's calls, by the world of script.py.
 """

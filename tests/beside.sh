@@ -1,4 +1,4 @@
-# Peers beside the library in one process (docs/BESIDE.md), sourced by ../test after tests/ffi.sh: our own
+# Peers beside the library in one process (docs/compare/BESIDE.md), sourced by ../test after tests/ffi.sh: our own
 # library behind the edge of a port, without a fault and with each that is planted; the library with a sanitizer
 # and by the kit's other compiler; what it reads, and what machines call their things; and of a peer whose sources
 # are here the stored inputs and each story of its report.
@@ -43,12 +43,11 @@ own_beside() {
 }
 
 # each bit of each register: by the commit a 64th of the faults that hosts/beside/bits plants in the library, and a 512th
-# of those in TF-A; of the peers of Debian 12 whose whole was not played, a part that was; draws without upper halves
-# have to be told
+# of those in the peers of Debian 12 and in TF-A 2.12; draws without upper halves have to be told
 bits_beside() {
     local part peers=() peer which
     part=$((16#$(git rev-parse --short=6 HEAD 2> /dev/null || echo 0) % 512 + 1))
-    for which in $((part % 64 + 1))/64:own $part/512:tfa $part/512:tfa-2.12 2/512:kvm 3/512:xen 1/512:qemu; do
+    for which in $((part % 64 + 1))/64:own $part/512:{kvm,xen,qemu,tfa,tfa-2.12}; do
         peer=${which#*:}
         [ "$peer" = own ] || has_sources "$peer" || continue
         [ "$peer" = own ] || peers+=("$peer")
@@ -125,12 +124,41 @@ known_beside() {
     baseline_beside "a suspend is refused in OS-initiated mode" \
         "s/^struct port port;/&\\nstatic uint32_t mode;/;s/$call/    $mode\\n&\\n    if (x[0] == 0xc4000001 \\&\\& !mode) did->what = 0, did->x0 = -3ul;/" \
         "s/$call/&\\n    if (x[0] == 0xc4000001) did->what = 0, did->x0 = -3ul;/"
+    baseline_beside "a CPU_ON is refused otherwise, and with an upper half once more" \
+        "s/$call/&\\n    if ((uint32_t)x[0] == 0x84000003 \\&\\& did->x0 == -9u) did->x0 = -6u;/" \
+        "s/$call/&\\n    if ((uint32_t)x[0] == 0x84000003 \\&\\& did->x0 == -9u)\\n        did->x0 = x[2] >> 32 \\&\\& x[2] \\& 3 \\&\\& (uint32_t)x[2] >> 29 != 2 ? -3u : -6u;/"
+    baseline_beside "AFFINITY_INFO passes over Aff2 of a core" \
+        's/core, x\[0\], x\[1\],/core, x[0], x[0] == 0xc4000004 \&\& (uint32_t)x[2] ? x[1] \& ~0xff0000ul : x[1],/' \
+        's/core, x\[0\], x\[1\],/core, x[0], x[0] == 0xc4000004 ? x[1] \& ~0xff0000ul : x[1],/'
     printf '= never seen\n  seen: in 900 of 1000 lists\n= seldom seen\n  seen: in 1 of 1000 lists\n' > "$work/known"
     REPORT=$work/known build_beside own first &&
         BESIDE_REPORT=$work/vanished "$work/beside/first" --draws 100 > "$work/out" 2>&1
     if grep -q '^beside: a group has vanished: never seen$' "$work/out" && [ "$(grep -c '^- ' "$work/vanished")" = 1 ]; then pass; else
         fail "$beside: a group that has vanished is not told"
     fi
+}
+
+# one_group NAME EDIT GROUP: all that a port with this edit does otherwise is this group
+one_group() {
+    echo "$2" > "$work/edit"
+    build_beside own caused "$work/edit" || return
+    BESIDE_REPORT=$work/caused "$work/beside/caused" --draws 4000 > "$work/out" 2>&1
+    if [ "$(grep '^[+=-]' "$work/caused")" = "+ $3" ]; then pass; else
+        fail "$beside: one cause is several groups: $1"
+        grep '^[+=-]' "$work/caused"
+    fi
+}
+
+# one cause is one group: what a profile lacks, in either mode; and a half of a register that a later event shows
+caused_beside() {
+    local call='^    obey(core, x\[0\], &answer, did);' entry='^    obey(core, 0, &answer, did);'
+    one_group "an unknown function" \
+        "s/$call/&\\n    if ((uint32_t)x[0] != 0x8400000a \\&\\& (did->x0 == -1u || did->x0 == -1ul)) did->x0--;/" \
+        "a function that the profile lacks: ours -1, theirs -2"
+    one_group "an upper half" "s/^struct port port;/&\\nstatic uint64_t upper[4];/
+        s/$call/    if (((uint32_t)x[0] | 1 << 30) == 0xc4000003 \\&\\& answer.code == 0)\\n        upper[(x[1] >> 7 \\& 2) | (x[1] \\& 1)] = x[0] >> 30 \\& 1 ? 0 : x[2] >> 32;\\n&/
+        s/$entry/&\\n    if (start.cause == PSCI_CAUSE_ON) did->address |= upper[core] << 32;\\n    upper[core] = 0;/" \
+        "entry by CPU_ON: the address keeps its upper half"
 }
 
 # the same on boards of many cores, of many levels and of the extended format, with a fault for each that has
@@ -370,6 +398,7 @@ in_one_process() {
     bits_beside
     report_beside
     known_beside
+    caused_beside
     boards_beside
     swept_beside
     bytes_beside

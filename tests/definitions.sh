@@ -1,4 +1,4 @@
-# Tests of the pages of docs/definitions/, sourced by ../test: they are what tools/definitions makes of the
+# Tests of the pages of docs/understand/definitions/, sourced by ../test: they are what tools/definitions makes of the
 # comments as they are now, and it tells what has none.
 
 definitions() {
@@ -13,23 +13,23 @@ definitions() {
         mkdir -p "$fresh/${name%/*}"
         cp -r "$name" "$fresh/${name%/*}"
     done
-    mkdir -p "$fresh/docs"
+    mkdir -p "$fresh/docs/understand"
     cp -r tools crates.txt "$fresh"
-    cp -r docs/definitions docs/DEFINITIONS.md docs/EXAMPLES.md "$fresh/docs"
+    cp -r docs/understand/definitions docs/understand/DEFINITIONS.md docs/understand/EXAMPLES.md "$fresh/docs/understand"
     # another comment, none, a definition and an example that are named by hand and are no more, a stray page
     sed -i 's/^-- the SMC64 convention:/-- that convention:/; /^-- the low half of a register/d' \
         "$fresh/crates/psci_abi/specs/Calls.antt"
-    sed -i 's/^| psci_board `IsBoard` |/| psci_board `IsBord` |/' "$fresh/docs/DEFINITIONS.md"
-    sed -i 's/`down_is_named`/`down_is_nmaed`/' "$fresh/docs/EXAMPLES.md"
-    touch "$fresh/docs/definitions/psci_none.md"
+    sed -i 's/^| psci_board `IsBoard` |/| psci_board `IsBord` |/' "$fresh/docs/understand/DEFINITIONS.md"
+    sed -i 's/`down_is_named`/`down_is_nmaed`/' "$fresh/docs/understand/EXAMPLES.md"
+    touch "$fresh/docs/understand/definitions/psci_none.md"
     "$fresh/tools/definitions" --check > "$work/out" 2> "$work/err"
     echo $? > "$work/got"
     cat > "$work/lines" << 'END'
-docs/DEFINITIONS.md: psci_board has no definition IsBord
-docs/EXAMPLES.md: there is no down_is_nmaed
+docs/understand/DEFINITIONS.md: psci_board has no definition IsBord
+docs/understand/EXAMPLES.md: there is no down_is_nmaed
 psci_abi: Calls.low_half has no comment
-docs/definitions/psci_abi.md is another page than tools/definitions writes
-docs/definitions/psci_none.md is another page than tools/definitions writes
+docs/understand/definitions/psci_abi.md is another page than tools/definitions writes
+docs/understand/definitions/psci_none.md is another page than tools/definitions writes
 30 pages
 END
     answers "what tools/definitions tells"

@@ -146,8 +146,8 @@ el3_words() {
     local tool
     mkdir -p "$work/few"
     for tool in bash dirname env; do ln -sf "$(command -v $tool)" "$work/few/$tool"; done
-    el3_says "run: there is no qemu-system-aarch64 aarch64-linux-gnu-gcc make dtc python3 apt-get here" each
-    el3_says "run: there is no option --fast; --help lists them" --fast
+    el3_says "run: missing qemu-system-aarch64 aarch64-linux-gnu-gcc make dtc python3 apt-get" each
+    el3_says "run: unknown option --fast; see --help" --fast
 }
 
 # can_boot: whether there is what a machine at EL3 wants: tools, a built archive, and what was downloaded before
@@ -197,6 +197,7 @@ el3_live_more() {
     can_boot || return
     live strict --strict each idle
     live lost-frames --lose 5 each suspend-5
+    live_unsent
     live three-lives --board "(2 2) $space lives 3" each reboot
     live cut --reset-at "guest: core 2 off" each idle
     broken_off "$work/cut.record.before"
@@ -252,6 +253,16 @@ live_shut() {
         fail "hosts/el3/run --cpu max --fault shut-features ends well"
     elif [ "$(grep -c "exception 8, esr 0x66000000" "$work/out")" = 1 ]; then pass; else
         fail "hosts/el3/run --cpu max --fault shut-features does not tell one exception"
+        tail -n 5 "$work/out"
+    fi
+}
+
+# frames are lost, and nothing is sent again: Linux misses cores
+live_unsent() {
+    say "Linux at EL3: the fault never-again"
+    EL3_OUT=$work/el3-unsent hosts/el3/run --seconds "$patience" --lose 5 --fault never-again each each boot-core each > "$work/out" 2>&1
+    if grep -q "^guest: core [0-9] did not come" "$work/out"; then pass; else
+        fail "hosts/el3/run --lose 5 --fault never-again: each core comes"
         tail -n 5 "$work/out"
     fi
 }

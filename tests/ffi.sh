@@ -105,7 +105,7 @@ c_unproved() {
             "$file" 2> "$work/err" && "$work/marks" > "$work/record" || fail "tests/programs/marks.c over $file"
         cat tests/records/short.record >> "$work/record"
         ./psci compare "$work/record" > "$work/out" 2>&1 || fail "a record over $file"
-        grep -c "the port was linked with a library that has no proof" "$work/out"
+        grep -c "the port was linked with an unproved library" "$work/out"
     done > "$work/told"
     if [ "$(tr '\n' ' ' < "$work/told")" = "1 0 " ]; then pass; else
         fail "what ./psci compare says of an archive without a proof: $(tr '\n' ' ' < "$work/told")"

@@ -18,10 +18,10 @@ fresh_copy() {
         mkdir -p "$1/${name%/*}"
         cp -r "$name" "$1/${name%/*}"
     done
-    mkdir -p "$1/docs" "$1/tests"
+    mkdir -p "$1/docs/port" "$1/tests"
     cp psci crates.txt HANDLES "$1"
     cp -r tools "$1"
-    cp docs/FORMATS.md "$1/docs"
+    cp docs/port/FORMATS.md "$1/docs/port"
     cp -r tests/texts "$1/tests"
     git init -q "$1"
 }
@@ -32,8 +32,8 @@ front() {
     local fault unproved compiled begun first fresh=$work/fresh
     has_python ./psci || return 0
     fault=$(cat tests/scripts/lines/event-of-no-form.err)$'\n'$(cat tests/texts/event-of-no-form.told)
-    unproved="psci: nothing of this run is proved; ./psci prove proves and builds the program"
-    compiled="psci: compiling it, which takes about a minute and is kept for the next run"
+    unproved="psci: this run is unproved; ./psci prove proves and builds the program"
+    compiled="psci: compiling it takes about a minute; the program is kept for the next run"
     front_of . replay
     expect "./psci replay" 3 "$fault"
     answers "./psci replay"
@@ -115,7 +115,7 @@ served() {
     fi
     if tests/served "$program" "$room" planted > "$work/out" 2>&1; then
         fail "tests/served lets a limit of memory through that no program fits"
-    elif grep -q "the program failed, and not the script" "$work/out"; then pass; else
+    elif grep -q "the program failed, not the script" "$work/out"; then pass; else
         fail "tests/served, planted: $(head -n 1 "$work/out")"
     fi
 }
@@ -161,7 +161,7 @@ replaying() {
     answers "./psci replay by the program that only replays"
     touch -d "1 minute" "$fresh/crates/psci_machine/src/lib.rt"
     PATH=$fresh/kit/bin:$PATH front_of "$fresh" replay
-    if head -n 1 "$work/err" | grep -q "^psci: nothing of this run is proved"; then pass; else
+    if head -n 1 "$work/err" | grep -q "^psci: this run is unproved"; then pass; else
         fail "./psci replay by a program that is older than a source: $(head -n 1 "$work/err")"
     fi
 }
@@ -184,7 +184,7 @@ wording() {
         # shellcheck disable=SC2086
         PATH=$(dirname "$(type -P python3)"):/usr/bin:/bin ./psci --unproved $word > "$work/out" 2> "$work/err"
         if [ -s "$work/out" ] || [ -s "$work/err" ]; then pass; else fail "./psci $word says nothing"; fi
-        if grep -q "nothing of this run" "$work/err"; then fail "./psci $word runs the program"; fi
+        if grep -q "this run is unproved" "$work/err"; then fail "./psci $word runs the program"; fi
     done
     processor_time
     took=$((spent - begun)) begun=$spent
@@ -226,7 +226,7 @@ named_scripts() {
         ./psci $words "$script" > "$work/out" 2> "$work/err"
         echo $? > "$work/got"
         expect "./psci $words of a faulty name" 3 "line $(wc -l < "$script"): script fault 2
-psci: line $(wc -l < "$script"), column 8: unknown function 'CPU_OFFF': is cpu_off meant?
+psci: line $(wc -l < "$script"), column 8: unknown function 'CPU_OFFF': did you mean cpu_off?
     call 0 CPU_OFFF
            ^
 psci: expected \`call CORE X0 [X1 [X2 [X3]]]\`"
@@ -257,7 +257,7 @@ files_and_streams() {
     : > "$work/empty"
     ./psci show "$work/empty" > "$work/out" 2> "$work/err"
     echo $? > "$work/got"
-    if [ "$(cat "$work/got")" = 3 ] && grep -q "line 1 has to be the board" "$work/err"; then pass; else
+    if [ "$(cat "$work/got")" = 3 ] && grep -q "line 1 must be the board" "$work/err"; then pass; else
         fail "./psci show of an empty script"
     fi
     ./psci replay "$work/none" > "$work/out" 2> "$work/err"
@@ -274,7 +274,7 @@ files_and_streams() {
     ./psci storm --seed 1 --count 1 --keep "$work/none/kept" > "$work/out" 2> "$work/err"
     echo $? > "$work/got"
     expect "./psci storm --keep in no folder" 4 \
-        "write fault"$'\n'"psci: --keep $work/none/kept is not written whole: No such file or directory"
+        "write fault"$'\n'"psci: --keep $work/none/kept was not written completely: No such file or directory"
     for words in "draw examples/late-acknowledgement.psci" "draw --page examples/late-acknowledgement.psci" \
         "storm --seeds 1..3 --count 5" "show --changes examples/late-acknowledgement.psci" --help "help draw" \
         "replay examples/late-acknowledgement.psci" "plain examples/late-acknowledgement.psci" \
@@ -300,18 +300,18 @@ lacking() {
     mkdir -p "$room"
     PATH=$room ./psci help > "$work/out" 2> "$work/err"
     echo $? > "$work/got"
-    expect "./psci without python3" 1 "psci: there is no python3 here, which ./psci is written in (3.9 or later)"
+    expect "./psci without python3" 1 "psci: ./psci needs python3 (3.9 or later), which is not here"
     ln -s "$(python3 -c 'import sys; print(sys.executable)')" "$room/python3"
     PATH=$room ./psci --unproved replay examples/lost-message.psci > "$work/out" 2> "$work/err"
     echo $? > "$work/got"
     sed -i 1d "$work/err"
-    expect "./psci without rt" 1 "psci: no program is proved here, and to make one needs the Rattle kit's command rt \
-on the path. README says what one has without the kit"
+    expect "./psci without rt" 1 "psci: no proved program is here, and building one needs the Rattle kit's command rt \
+on the path. README says what works without the kit"
     XDG_CACHE_HOME=/dev/null/cache ./psci --unproved replay examples/lost-message.psci > "$work/out" 2> "$work/err"
     echo $? > "$work/got"
     sed -i 1,2d "$work/err"
-    expect "./psci without a cache" 1 "psci: what is compiled is kept in /dev/null/cache/gumdarts/unproved: Not a directory; \
-XDG_CACHE_HOME names another folder"
+    expect "./psci without a cache" 1 "psci: cannot keep the compiled program in /dev/null/cache/gumdarts/unproved: Not a directory; \
+set XDG_CACHE_HOME to another folder"
     PATH=$room XDG_CACHE_HOME=/dev/null/cache "$room/python3" "$top/psci" plain examples/lost-message.psci > "$work/out"
     cp examples/lost-message.psci "$work/lines"
     answers "./psci plain, which needs neither git nor a cache"
@@ -322,8 +322,8 @@ XDG_CACHE_HOME names another folder"
         examples/lost-message.psci' sh "$work/full" > "$work/out" 2> "$work/err"
     echo $? > "$work/got"
     sed -i 1,2d "$work/err"
-    expect "./psci with a full cache" 1 "psci: what is compiled is kept in $work/full/gumdarts/unproved: No space left on \
-device; XDG_CACHE_HOME names another folder"
+    expect "./psci with a full cache" 1 "psci: cannot keep the compiled program in $work/full/gumdarts/unproved: No space left on \
+device; set XDG_CACHE_HOME to another folder"
 }
 
 # Where things come from, as README says it: the standards by title, the kit, how a fault is reported, and the least
@@ -362,7 +362,7 @@ END
 
 # closed_or_full NAME STATUS FILE REASON: a write fault was told, with the file and why
 closed_or_full() {
-    if [ "$2" = 4 ] && [ "$(cat "$work/err")" = "write fault"$'\n'"psci: $3 is not written whole: $4" ]; then pass; else
+    if [ "$2" = 4 ] && [ "$(cat "$work/err")" = "write fault"$'\n'"psci: $3 was not written completely: $4" ]; then pass; else
         fail "$1 (status $2): $(head -n 2 "$work/err")"
     fi
 }
@@ -460,7 +460,7 @@ long_boards() {
     echo $? > "$work/got"
     sed -i '2,$d' "$work/err"
     expect "a kept storm on a board of $((${#board} + 1)) bytes" 2 \
-        "psci: word 8: --keep is a script, and takes a board of 250 bytes: this has $((${#board} + 1))"
+        "psci: word 8: --keep writes a script, whose board has at most 250 bytes: this has $((${#board} + 1))"
     [ "${#board}" = 250 ] || fail "the longest board of the test has ${#board} bytes"
 }
 

@@ -1,4 +1,4 @@
-# Records of the calls of other firmware (docs/JUDGE.md), sourced by ../test after tests/program.sh: the
+# Records of the calls of other firmware (docs/compare/JUDGE.md), sourced by ../test after tests/program.sh: the
 # stored ones, those that the second model makes, and live ones where QEMU is here.
 
 payload=hosts/payload
@@ -67,7 +67,7 @@ judged_words() {
     judged_as 0 "agrees    records/calls" --profile $profile $short
     judged_as 0 "ok 1 - records/calls" --tap --profile $profile $short
     judged_as 2 "needs --profile" $short
-    judged_as 3 "no line of a profile" --profile $short $short
+    judged_as 3 "not a line of a profile" --profile $short $short
     judged_as 4 "No such file" --profile $profile "$work/there-is-none"
     judged_as 0 "functions VERSION CPU_ON_64" --declare $short
     while IFS='|' read -r status text change; do
@@ -86,14 +86,14 @@ judged_words() {
     judged_as 7 "undecided" --bound 1 --profile $profile $short
     sed 's/77 0 \.$/77 20010 ./' $short > "$work/calls.record"
     { cat $profile; echo "keeps x4-x17"; } > "$work/keeps.profile"
-    judged_as 6 "x4 to x17 changed, which it says that it keeps" --profile "$work/keeps.profile" "$work/calls.record"
+    judged_as 6 "x4 to x17 changed, which its profile says it keeps" --profile "$work/keeps.profile" "$work/calls.record"
     # one record of a firmware tells its version of the calling convention for all
     sed 's/8400000a 84000000 0 0 0/80000000 84000000 0 0 10002/;/^psci: open 0 0 /d' $short > "$work/version.record"
     { cat $profile; echo "functions ours 80000000"; } > "$work/version.profile"
     judged_as 0 "2 records: 2 agrees" --profile "$work/version.profile" "$work/version.record" $short
     judged_as 6 "2 records: 1 agrees, 1 differs" --profile "$work/version.profile" "$work/version.record" \
         "$work/calls.record"
-    judged_as 6 "by version 1.2 of the convention" --profile "$work/version.profile" "$work/version.record" \
+    judged_as 6 "in version 1.2 of the convention" --profile "$work/version.profile" "$work/version.record" \
         "$work/calls.record"
     judged_later
 }

@@ -1,5 +1,5 @@
 # Long scripts through the built program, sourced by ../test after tests/program.sh: many lines, events and
-# cores, and more messages than memory holds. What is wanted is written here, by docs/FORMATS.md.
+# cores, and more messages than memory holds. What is wanted is written here, by docs/port/FORMATS.md.
 
 blank_lines() { awk -v count="$1" 'BEGIN { for (i = 0; i < count; i++) print "" }'; }
 

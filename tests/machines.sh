@@ -1,4 +1,4 @@
-# Tests of machines that have words of their own (docs/BOARDS.md), beside the built program, sourced by ../test:
+# Tests of machines that have words of their own (docs/port/BOARDS.md), beside the built program, sourced by ../test:
 # their texts and calls, stored ones of twelve boards, records, and descriptions from device trees.
 
 # each fault of a text, calls as they are made and answered, wrong words
@@ -43,12 +43,12 @@ named_machines() {
     local record=$work/named/run.record beside
     mkdir -p "$work/named"
     { cat "$work/words.record"; echo "# machine machine.machine"; } > "$record"
-    compared 3 "it has the words of the machine machine.machine: --machine takes the text of that" "$record"
+    compared 3 "its calls are those of the machine machine.machine: give its text by --machine" "$record"
     compared 0 "22 events are answered as by" "$record" --machine tests/records/machine.machine
     for beside in "$record.machine" "$work/named/machine.machine"; do
         cp tests/records/machine.machine "$beside"
         compared 0 "22 events are answered as by" "$record"
-        compared 0 "has the words of the machine machine.machine: $beside" "$record"
+        compared 0 "are those of the machine machine.machine: $beside" "$record"
         rm "$beside"
     done
 }

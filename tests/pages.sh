@@ -75,6 +75,6 @@ view_words() {
     echo $? > "$work/got"
     : > "$work/lines"
     expect "./psci draw of a long run" 2 \
-        "psci draw: a picture has at most 280 events (32767 pixels): take --page, or a window by --from and --to"
+        "psci draw: a picture has at most 280 events (32767 pixels): use --page, or a window by --from and --to"
     answers "./psci draw of a long run"
 }

@@ -1,5 +1,5 @@
 # Tests of the built program as a whole, sourced by ../test: little memory, words and streams.
-# What is wanted is written here, by docs/FORMATS.md.
+# What is wanted is written here, by docs/port/FORMATS.md.
 
 board="board 1 exec 0x0-0x4 boot 0x0 starts 1 lives 1"
 
@@ -69,7 +69,7 @@ little_memory() {
     if [ "$refused" -gt 0 ]; then pass; else fail "no amount of memory was too little for replay"; fi
 }
 
-# the stack that docs/COSTS.md names is enough
+# the stack that docs/maintain/COSTS.md names is enough
 little_stack() {
     local words run
     one_entry
@@ -484,7 +484,7 @@ storm_counts() {
         END { for (tally in sum) if (sum[tally] > 0) came++; exit came != tallies }' "$work/all"; then pass; else
         fail "a tally that came in no storm"
     fi
-    # the tallies stand in docs/FORMATS.md, in this order
+    # the tallies stand in docs/port/FORMATS.md, in this order
     awk -F'|' '/^\| Asked \| Answers \|/ { on = 1; next } !/^\|/ { on = 0 } on && !/^\|-/ {
             gsub(/`/, ""); answers = $3
             if (sub(/ack applied A and ack applied A stale for A from 1 to 3 in turn/, "#", answers))
@@ -492,9 +492,9 @@ storm_counts() {
                     "ack applied 3 stale", answers)
             names = split($2, name, /, and then /); count = split(answers, answer, ",")
             for (n = 1; n <= names; n++) for (i = 1; i <= count; i++) print name[n] answer[i] " "
-        }' docs/FORMATS.md | tr -s ' ' | sed 's/^ //' > "$work/lines"
+        }' docs/port/FORMATS.md | tr -s ' ' | sed 's/^ //' > "$work/lines"
     sed -n '2,$s/[0-9]*$//p' "$work/counts" > "$work/out"
-    answers "the tallies of docs/FORMATS.md"
+    answers "the tallies of docs/port/FORMATS.md"
     for words in "--counts=x" "--counts=true" "--counts x" "--counts --counts"; do
         # shellcheck disable=SC2086
         run storm --seed 1 --count 1 $words

@@ -1,4 +1,4 @@
-# Sweeps over ranges of seeds (docs/SWEEP.md), sourced by ../test after tests/program.sh: those of this
+# Sweeps over ranges of seeds (docs/compare/SWEEP.md), sourced by ../test after tests/program.sh: those of this
 # machine, with faults that have to show, and of farms that stand on it, where their packages are here.
 
 # stories of sweeps that are ended, begun again, cut otherwise and spoiled

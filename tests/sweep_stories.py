@@ -118,7 +118,7 @@ def spoiled(room):
     with open(room.path("spoiled/program"), "ab") as file:
         file.write(b"\n")
     status, _, said = room.sweep("spoiled")
-    wants(status == 4 and "not what the sweep began with" in said, f"it goes on by another program: {status}: {said}")
+    wants(status == 4 and "has changed since the sweep began" in said, f"it goes on by another program: {status}: {said}")
     shutil.copy(room.program, room.path("spoiled/program"))
     room.is_good(room.sweep("spoiled"))
 
@@ -138,11 +138,11 @@ def exchanged(room):
         status, text, said = room.sweep(out, *more, program=program)
         # the first seed is tried before the sweep begins, and seed 13 is in the third chunk of five
         wants(status == 4 and not text, f"a program is exchanged, and it ends with {status}: {text}{said}")
-        wants(f"{out}/program: it is not what the sweep began with" in said, f"it says nothing of the program: {said}")
+        wants(f"{out}/program has changed since the sweep began" in said, f"it says nothing of the program: {said}")
         wants(list(room.finished(out)) == ["0.json", "1.json"][:2 * (out == "exchanged")],
               f"results of another program: {list(room.finished(out))}")
         status, _, said = room.report(out)
-        wants(status == 4 and "not what the sweep began with" in said, f"the report ends with {status}: {said}")
+        wants(status == 4 and "has changed since the sweep began" in said, f"the report ends with {status}: {said}")
         shutil.copy(room.path(f"{out}/program.was"), room.path(f"{out}/program"))
         room.is_good(room.sweep(out, *more, program=program))
 
@@ -213,7 +213,7 @@ def model(room):
     wants(status == 0, f"the second model answers otherwise: {text}{said}")
     wrong = room.wrapped(f"'{room.program}' \"$@\" | sed 's/^1 enter/1 resume/'; exit", "replay")
     status, text, _ = room.sweep("wrong", "--model", program=wrong, seeds="1..4")
-    wants(status == 6 and "the second model answers otherwise: ours resume, theirs enter" in text, "it sees nothing")
+    wants(status == 6 and "the second model answers differently: ours resume, theirs enter" in text, "it sees nothing")
 
 
 def alone(room):
@@ -230,7 +230,7 @@ def alone(room):
     late.cancel()
     process.send_signal(signal.SIGINT)
     process.wait()
-    wants(status == 2 and "another sweep is at it" in said, f"two sweeps are at one folder: {said}")
+    wants(status == 2 and "another sweep uses it" in said, f"two sweeps are at one folder: {said}")
     os.unlink(held)
     room.is_good(room.sweep("alone", program=program))
 
@@ -238,7 +238,7 @@ def alone(room):
 def refused(room):
     """Words at fault are told before anything is begun."""
     for more, text in ((("--board", "(2 2"), "board fault 1"), (("--count", "10001"), "--count takes"),
-                       (("--seeds", "5..1"), "FIRST..LAST was expected"), (("--jobs", "0"), "from 1 to"),
+                       (("--seeds", "5..1"), "expected FIRST..LAST"), (("--jobs", "0"), "from 1 to"),
                        (("--boards", "/dev/null"), "no lines 'board"), (("--minutes", "0"), "above 0")):
         status, _, said = room.sweep("refused", *more)
         wants(status == 2 and text in said, f"{more}: status {status}: {said}")

@@ -93,7 +93,7 @@ tfa_guide() {
         sed -nE 's/^(Function : |plat_psci_ops\.)(\w+)\(\).*/\2/p' > "$work/hooks"
     [ "$(wc -l < "$work/hooks")" = "$2" ] || fail "$guide has $(wc -l < "$work/hooks") hooks, and not $2"
     while read -r name; do
-        if grep -q "^|.*\`$name\`.*| \(kept\|replaced\|lost\)" docs/TFA.md; then pass; else fail "docs/TFA.md: $name"; fi
+        if grep -q "^|.*\`$name\`.*| \(kept\|replaced\|lost\)" docs/port/TFA.md; then pass; else fail "docs/port/TFA.md: $name"; fi
     done < "$work/hooks"
 }
 
@@ -150,9 +150,9 @@ tfa_words() {
     tfa_guide "$tfa_2_12" 29
     tfa_calls
     tfa_versions
-    tfa_says "run: there is no release buster; there are bookworm, trixie, trixie-backports and sid" --release buster
-    tfa_says "run: there is no qemu-system-aarch64 aarch64-linux-gnu-gcc" each
-    tfa_says "run: there is no option --fast; --help lists them" --fast
+    tfa_says "run: unknown release buster; expected bookworm, trixie, trixie-backports or sid" --release buster
+    tfa_says "run: missing qemu-system-aarch64 aarch64-linux-gnu-gcc" each
+    tfa_says "run: unknown option --fast; see --help" --fast
 }
 
 # has_for_tfa WHAT CACHE: whether there is what builds and boots TF-A, of downloads in this folder
@@ -197,11 +197,54 @@ tfa_registers() {
     fi
 }
 
-# the same in TF-A 2.12 with Linux 6.12, in OS-initiated mode; and what EL3 sets for each core is what it sets by itself
+# tfa_in_no_run FAULT TEXT OPTION..: with this fault the record of Linux on TF-A is in no run, and this is said of it
+tfa_in_no_run() {
+    TFA_OUT=$work/tfa hosts/tfa/run --seconds "$patience" --record "$work/tfa.record" --fault "$1" "${@:3}" each \
+        > "$work/out" 2>&1
+    compared 6 "$2" "$work/tfa.record"
+}
+
+# the same in TF-A 2.12 with Linux 6.12, in both modes; a fault shows; and what EL3 sets for each core is what it sets by
+# itself
 tfa_2_12_live() {
     has_for_tfa "Linux on TF-A 2.12" "$tfa_cache/trixie" || return
     say "Linux on TF-A 2.12"
     tfa_boots --release trixie --mode osi
+    tfa_boots --release trixie
+    tfa_in_no_run no-wait "was taken down before it stood in its stop" --release trixie
     tfa_registers 0 " of each core after 3 stages: 0 differ$"
     tfa_registers 1 "^after CPU_ON, core 1, SMCR_EL3: TF-A 0x8000000f, ours 0x0$" --fault core-setup
+}
+
+# tfa_count TOOL EDIT TEXT: this edit of what a tool has counted is told by this text
+tfa_count() {
+    rm -rf "$work/edited"
+    mkdir "$work/edited"
+    cp "$work/counted"/*-bookworm "$work/counted"/*-trixie "$work/edited"
+    sed -i "$2" "$work/edited/$1-trixie"
+    if cmp -s "$work/counted/$1-trixie" "$work/edited/$1-trixie"; then fail "hosts/tfa/$1 prints nothing as $2"; return; fi
+    if hosts/tfa/figures --check --again --told "$work/edited" > "$work/out" 2>&1; then
+        fail "hosts/tfa/figures lets this through: $2"
+    elif grep -q -- "$3" "$work/out"; then pass; else
+        fail "hosts/tfa/figures does not name this: $2"
+        head -n 5 "$work/out"
+    fi
+}
+
+# what the page says of TF-A 2.8 and 2.12, as they are and with the firmware inside, in instructions and bytes
+tfa_figures() {
+    local what="figures of TF-A, as it is and with the firmware inside"
+    has_for_tfa "$what" "$tfa_cache" && has_for_tfa "$what" "$tfa_cache/trixie" || return
+    [ "$(aarch64-linux-gnu-gcc -dumpfullversion)" = 12.2.0 ] || { skip "$what" "aarch64-linux-gnu-gcc 12.2"; return; }
+    say "counting what calls take inside TF-A, some minutes"
+    if hosts/tfa/figures --check --told "$work/counted" > "$work/out" 2>&1; then pass; else
+        fail "the figures of docs/port/TFA.md; hosts/tfa/figures --write writes them"
+        head -n 20 "$work/out"
+    fi
+    [ -e "$work/counted/waits-trixie" ] || return
+    tfa_count parts 's/^ours: 0 call VERSION: [0-9]*/ours: 0 call VERSION: 999/' \
+        'PSCI_VERSION, with the firmware inside: docs/port/TFA.md says [0-9,]*, it is 999'
+    tfa_count measure '/^ours: held: CPU_OFF, firmware/d' "the firmware's, CPU_OFF, with the firmware inside: .*, it is nothing"
+    tfa_count waits 's/CPU_ON: \(.*\); ours \([0-9,]*\) times: [0-9,]*,/CPU_ON: \1; ours \2 times: 9,999,/' 'CPU_ON, with .* it is 9,999'
+    tfa_count sizes 's/^stock: code and constants: .*/stock: code and constants: 4096/' 'code and constants, TF-A 2.12: .* it is 4,096'
 }

@@ -11,7 +11,7 @@ import sys
 from figured.library import said
 from figured.pages import TOP, Table, grouped
 
-PAGE = "docs/COSTS.md"
+PAGE = "docs/maintain/COSTS.md"
 LISTS = f"{TOP}/bench/figured/lists.txt"
 # the columns: the board and the machine
 BOARD = {"4 cores": ("2x2", "board"), "64": ("16x4", "board"), "256": ("16x16", "board"),

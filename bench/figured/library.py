@@ -9,7 +9,7 @@ from figured.pages import TOP, Sentence, Table, grouped
 sys.path.insert(0, f"{TOP}/tools")
 from sources import KIT
 
-PAGE = "docs/REFERENCE.md"
+PAGE = "docs/port/REFERENCE.md"
 # the columns of the table of code: what each is called, and its archive
 COLUMNS = {
     "x86-64": "x86_64/libpsci_ffi.a",
@@ -107,12 +107,12 @@ def stack_table(bounds, stepped):
 
 
 def sentences(bounds):
-    """What docs/TFA.md says of the archive that is linked into TF-A."""
+    """What docs/port/TFA.md says of the archive that is linked into TF-A."""
     most = {name: grouped(it["aarch64, aligned"]) for name, it in bounds.items()}
-    return [Sentence("docs/TFA.md", "By the code `psci_open_board` takes", "bytes of it at most",
+    return [Sentence("docs/port/TFA.md", "By the code `psci_open_board` takes", "bytes of it at most",
                      most["psci_open_board"]),
-            Sentence("docs/TFA.md", "A call takes", "bytes of the library at most", most["psci_smc"]),
-            Sentence("docs/TFA.md", "bytes of the library at most, an entry", "bytes. There is no vector", most["psci_enter"])]
+            Sentence("docs/port/TFA.md", "A call takes", "bytes of the library at most", most["psci_smc"]),
+            Sentence("docs/port/TFA.md", "bytes of the library at most, an entry", "bytes. There is no vector", most["psci_enter"])]
 
 
 def too_deep(bounds, stepped):

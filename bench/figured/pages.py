@@ -65,12 +65,12 @@ class Table:
 
 
 class Sentence:
-    """A figure in a sentence of a page, by the words before it and behind it."""
+    """A figure in a sentence of a page, or what of a few words stands there, by the words before it and behind it."""
 
-    def __init__(self, path, before, behind, figure):
+    def __init__(self, path, before, behind, figure, form="[0-9,]+"):
         self.path, self.before, self.behind, self.figure = path, before, behind, figure
         words = [r"\s+".join(map(re.escape, it.split())) for it in (before, behind)]
-        self.form = re.compile(rf"({words[0]}\s+)([0-9,]+)(\s+{words[1]})")
+        self.form = re.compile(rf"({words[0]}\s+)({form})(\s+{words[1]})")
 
     def found(self, page):
         said = self.form.findall("\n".join(page))

@@ -7,7 +7,7 @@ import time
 
 from figured.pages import TOP, Table, grouped
 
-PAGE = "docs/COSTS.md"
+PAGE = "docs/maintain/COSTS.md"
 PROGRAM = f"{TOP}/crates/psci_cli/out/psci_cli"
 REPLAYED = ["Replay", "calls", "turns"]
 PASSED = ["Instructions through a pass", "PSCI_VERSION", "suspend and wake", "on, entry, off, acknowledgement"]

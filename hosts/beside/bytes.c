@@ -1,5 +1,5 @@
 /* A target for bytes that the library reads: the text of a board, a board as a struct, a machine, and frames
- * (docs/BESIDE.md). The first byte of an input says which, as `ways` below has it. Whatever comes, the
+ * (docs/compare/BESIDE.md). The first byte of an input says which, as `ways` below has it. Whatever comes, the
  * halves of the library have to agree on it, and a frame that is read has to be written back as it was.
  *
  *   bytes LIST                     each input of a list: its answers have to come, and in all every answer there is

@@ -111,14 +111,26 @@ static void call_by_first(struct list *list, const char *key) {
     }
 }
 
-/* Each register has 0 in it, or the boot address, or what it has in its lower half. */
+/* Each of these bits of a register that can be 0 is. */
+static void clear_bits(struct list *list, uint64_t *reg, uint64_t which, const char *key) {
+    for (int bit = 63; bit >= 0; bit--)
+        if ((*reg & which) >> bit & 1)
+            can_have(list, reg, *reg & ~(UINT64_C(1) << bit), key);
+}
+
+/* The bits of a function word that are none of its number. */
+static const uint64_t around_number = UINT64_C(0xffffffff40000000);
+
+/* Each register has 0 in it, or the boot address with two low bits or without, or as few bits as can be. */
 static void make_plain(struct list *list, const char *key) {
     for (uint32_t at = 0; at < list->length; at++)
         for (int i = 0; list->events[at].kind == PSCI_BESIDE_CALL && i < 4; i++) {
-            uint64_t *reg = &list->events[at].x[i], was = *reg;
-            bool so = !was || (i && (can_have(list, reg, 0, key) || can_have(list, reg, profile.boot, key)));
-            if (!so && was >> 32)
-                can_have(list, reg, (uint32_t)was, key);
+            uint64_t *reg = &list->events[at].x[i], plain[] = {0, profile.boot, profile.boot | (*reg & 3)};
+            bool is_plain = !*reg;
+            for (int which = 0; i && !is_plain && which < 3; which++)
+                is_plain = can_have(list, reg, plain[which], key);
+            if (!is_plain)
+                clear_bits(list, reg, i ? UINT64_MAX : around_number, key);
         }
 }
 

@@ -1,4 +1,4 @@
-/* A target for what machines call their cores, power states and functions (docs/BESIDE.md). An input is a
+/* A target for what machines call their cores, power states and functions (docs/compare/BESIDE.md). An input is a
  * machine, mostly without a fault, and calls in its words. What opens, and what is refused with which
  * number, has to be as naming.c has it; then the machine's calls stand beside those that naming.c makes of
  * them, on a second firmware that knows of no machine: answers, messages and what is asked have to be alike.

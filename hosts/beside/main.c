@@ -40,7 +40,7 @@ static void stored(const char *path) {
 }
 
 static int explain(void) {
-    fputs("a target without a fuzzer, which has to be told what to run (docs/BESIDE.md):\n"
+    fputs("a target without a fuzzer, which has to be told what to run (docs/compare/BESIDE.md):\n"
           "  TARGET FILE..              stored inputs, one a file\n"
           "  TARGET --draws N [SEED]    N inputs that are drawn blindly\n"
           "  TARGET --stories REPORT    each story of a stored report once more\n"

@@ -1,4 +1,4 @@
-/* What a machine's words mean, once more: written from docs/FORMATS.md ("Machine text"), as the second model
+/* What a machine's words mean, once more: written from docs/port/FORMATS.md ("Machine text"), as the second model
  * is, over the struct that C gives. machines.c holds the library to it. */
 #ifndef GUMDARTS_BESIDE_NAMING_H
 #define GUMDARTS_BESIDE_NAMING_H

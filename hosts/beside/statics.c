@@ -4,6 +4,7 @@
 #include <stdint.h>
 #include <stdio.h>
 #include <stdlib.h>
+#include <string.h>
 
 /* The linker names the ends of a section whose name is a word, and no ends where there is none. */
 #define END extern __attribute__((weak)) uint8_t
@@ -16,6 +17,11 @@ enum { MOST = 1 << 20 };
 static uint8_t fresh[MOST], kept[MOST];
 static bool is_kept;
 
+#ifndef __has_feature
+#define __has_feature(it) 0
+#endif
+
+#if defined __SANITIZE_ADDRESS__ || __has_feature(address_sanitizer)
 /* By hand, since between two variables there may be what a sanitizer guards: words, and the bytes behind the last one. */
 __attribute__((no_sanitize("address"))) static void copy(volatile uint8_t *to, volatile uint8_t *from, size_t bytes) {
     for (size_t at = 0; at < bytes / 8; at++)
@@ -23,6 +29,9 @@ __attribute__((no_sanitize("address"))) static void copy(volatile uint8_t *to, v
     for (size_t at = bytes & ~(size_t)7; at < bytes; at++)
         to[at] = from[at];
 }
+#else
+static void copy(uint8_t *to, const uint8_t *from, size_t bytes) { memcpy(to, from, bytes); }
+#endif
 
 static void both(uint8_t *copies, bool back) {
     size_t data = __stop_peer_data - __start_peer_data, bss = __stop_peer_bss - __start_peer_bss;
@@ -47,4 +56,11 @@ void statics_fresh(void) {
 void statics_save(void *self, bool back) {
     (void)self;
     both(kept, back);
+}
+
+void statics_hold(unsigned cores, unsigned most) {
+    if (cores <= most)
+        return;
+    fprintf(stderr, "beside: the board has %u cores, and the peer has room for %u\n", cores, most);
+    exit(1);
 }

@@ -11,4 +11,7 @@ void statics_fresh(void);
 /* A peer's `save`: keeps a copy of them, or brings it back. */
 void statics_save(void *self, bool back);
 
+/* Ends a target whose board has more cores than the peer has room for. Room costs time: all of it is copied. */
+void statics_hold(unsigned cores, unsigned most);
+
 #endif

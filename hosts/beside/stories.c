@@ -29,7 +29,7 @@ static void end_story(const char *key, struct list *list) {
     many++;
     list->message[0] = NONE + 1;
     if (!plays(list, 0, 0, NONE, key, &played)) {
-        printf("it no longer comes: %s\n", key);
+        printf("no longer reproduced: %s\n", key);
         missed++;
         return;
     }
@@ -63,6 +63,6 @@ int stories(const char *path) {
         end_story(key, &list);
     if (from)
         fclose(from);
-    printf("%d of %d stories come, and of %d no event can go\n", many - missed, many, many - missed - loose);
+    printf("%d of %d stories are reproduced, and in %d no event can go\n", many - missed, many, many - missed - loose);
     return missed || loose || !many;
 }

@@ -1,34 +1,31 @@
 /* How a core comes into the normal world: it waits at its door for a start, and enters by it once. */
 #include "console.h"
 #include "gic.h"
+#include "hooks.h"
 #include "link.h"
 #include "monitor.h"
+#include "power.h"
 #include "record.h"
 
 /* The start that each core has entered by. */
 static uint64_t used[CORES];
 
 /* The last thing that a core does in a start. On a machine its power goes here, and it comes back
- * through its reset vector; an emulated core keeps its power, and waits in this loop instead. Its timer
- * rings on in it: on a machine another one, which never loses power, has to have others send again. */
+ * through its reset vector; an emulated core keeps its power, and waits in this loop instead. It takes no lock in it,
+ * with which its power could go, but where the controller is in the monitors. */
 void wait_for_start(unsigned core, bool wakes) {
     struct door *door = &shared.doors[core];
     if (!wakes)
         gic_bell_alone();
-    record_stands(used[core]);
-    STORE(door->stopped, used[core]);
-    gic_ring(SCP);
+    tell_stop(core, used[core]);
     for (;;) {
-        if (gic_answer())
-            serve_link(true);
+        gic_answer();
         if (LOAD(door->opened) != used[core])
             return;
-        if (wakes && gic_wakes() && door->woken != used[core]) {
-            STORE(door->woken, used[core]);
-            gic_ring(SCP);
-        }
+        if (wakes && gic_wakes() && door->woken != used[core])
+            tell_wake_up(core, used[core]);
         relax();
-        wait_for_interrupt(); /* the WFI goes on where that interrupt is there */
+        board_waits(); /* a WFI goes on where that interrupt is there */
     }
 }
 
@@ -85,13 +82,19 @@ static unsigned find_number(void) {
     return this_core();
 }
 
-static _Noreturn void start_control(void) {
+/* The core that the operating system is not shown, where there is one. */
+static void start_control(void) {
+#ifdef SCP_MPIDR
+    if (own_mpidr() != SCP_MPIDR)
+        return;
     *own_number() = SCP;
     gic_start_core(SCP);
     control_power();
+#endif
 }
 
 void on_reset(void) {
+    board_comes_out();
     open_features();
     if (own_mpidr() == BOOT && !gic_is_started()) {
         start_machine();
@@ -99,8 +102,7 @@ void on_reset(void) {
     }
     while (!gic_is_started() || LOAD(kept.boot) != READY)
         relax();
-    if (own_mpidr() == SCP_MPIDR)
-        start_control();
+    start_control();
     unsigned core = find_number();
     gic_start_core(core);
     if (LOAD(shared.doors[core].opened) == used[core])

@@ -1,4 +1,4 @@
-/* The interrupt controller, of version 2 or 3. Secure interrupts (group 0, FIQs) are the monitor's:
+/* The interrupt controller: gicv2.c, gicv3.c, or a board's own. Secure interrupts (group 0, FIQs) are the monitor's:
  * the bell, by which who has written into shared memory has another core look there, and the timer.
  * In the normal world they trap to EL3, and in EL3 they end a WFI. All others are the normal world's. */
 #ifndef GIC_H
@@ -17,6 +17,9 @@ void gic_ring(unsigned core);
 
 /* What rang is answered, and rings no more: whether the timer of this core did. */
 bool gic_answer(void);
+
+/* By a core that was reset by a line of its own, which leaves the controller as it was. */
+void gic_forget(void);
 
 /* An interrupt of the normal world is there for this core. */
 bool gic_wakes(void);

@@ -5,10 +5,25 @@
 /* By which value each core is rung, once it has come out of reset. */
 static uint32_t bells[CORES + 1];
 
+/* Of so many interrupts: none is on, pending or active. A reset of the system by its cores' lines leaves that. */
+static void forget(unsigned at, uint32_t which) {
+    mmio32(GICD + 0x180 + 4 * at) = which; /* ICENABLER */
+    mmio32(GICD + 0x280 + 4 * at) = which; /* ICPENDR */
+    mmio32(GICD + 0x380 + 4 * at) = which; /* ICACTIVER */
+}
+
+void gic_forget(void) {
+    forget(0, NORMAL_WORLD);
+    mmio32(GICD + 0xf10) = ~0u; /* CPENDSGIR, of SGIs 0 to 7 */
+    mmio32(GICD + 0xf14) = ~0u;
+}
+
 void gic_start(void) {
     mmio32(GICD) = 0;
-    for (unsigned at = 1; at < 32; at++)
+    for (unsigned at = 1; at < 32; at++) {
+        forget(at, ~0u);
         mmio32(GICD + 0x80 + 4 * at) = ~0u; /* IGROUPR: shared interrupts are the normal world's */
+    }
     __asm__ volatile("dsb sy" ::: "memory");
     mmio32(GICD) = 3;
 }

@@ -12,6 +12,9 @@
 #define IGRPEN1_EL3 "s3_6_c12_c12_7"
 #define PMR "s3_0_c4_c6_0"
 
+/* So many bytes has the redistributor of each core, in any order of cores. */
+enum { FRAME = 0x20000 };
+
 /* By which value each core is rung, once it has come out of reset: 0 rings nobody. */
 static uint64_t bells[CORES + 1];
 
@@ -26,13 +29,23 @@ static uint64_t bell_of(uint64_t mpidr) {
 static uintptr_t own_frame(void) {
     uintptr_t frame = GICR;
     while (mmio32(frame + 0xc) != fields_of(own_mpidr()))
-        frame += GICR_SIZE;
+        frame += FRAME;
     return frame;
 }
+
+/* Of so many interrupts: none is on, pending or active. A reset of the system by its cores' lines leaves that. */
+static void forget(uintptr_t frame, unsigned at, uint32_t which) {
+    mmio32(frame + 0x180 + 4 * at) = which; /* ICENABLER */
+    mmio32(frame + 0x280 + 4 * at) = which; /* ICPENDR */
+    mmio32(frame + 0x380 + 4 * at) = which; /* ICACTIVER */
+}
+
+void gic_forget(void) { forget(own_frame() + 0x10000, 0, NORMAL_WORLD); }
 
 void gic_start(void) {
     mmio32(GICD) = 0x30; /* affinity routing in both worlds */
     for (unsigned at = 1; at < 32; at++) {
+        forget(GICD, at, ~0u);
         mmio32(GICD + 0x80 + 4 * at) = ~0u; /* IGROUPR: shared interrupts are the normal world's */
         mmio32(GICD + 0xd00 + 4 * at) = 0;  /* IGRPMODR */
     }

@@ -1,15 +1,10 @@
-/* The lock, and the mailbox with its bell. */
+/* The mailbox of a power controller that has a core of its own, with its bell. */
 #include "console.h"
 #include "gic.h"
 #include "link.h"
+#include "power.h"
 #include "record.h"
 #include "string.h"
-
-struct shared shared;
-struct psci_place firmware;
-struct psci_machine_place machine, own_machines[CORES];
-struct psci_poller pollers[CORES];
-uint32_t taken;
 
 /* A bad link, for trials: of so many frames one is lost. */
 static bool is_lost(void) {
@@ -41,19 +36,22 @@ bool get_frame(struct ring *ring, uint8_t *frame) {
     return true;
 }
 
-/* How long after it was sent a message goes again: 20 milliseconds. */
-static uint64_t period(void) { return read_register("cntfrq_el0") / 50; }
-
-static void start_timer(void) {
-    write_register("cntps_tval_el1", period());
-    write_register("cntps_ctl_el1", 1);
-}
-
 void send(const struct psci_frame *message) {
     COUNT(messages);
     put_frame(&shared.messages, message->bytes);
     gic_ring(SCP);
-    start_timer();
+}
+
+/* The last thing that a core writes in a start. */
+void tell_stop(unsigned core, uint64_t used) {
+    record_stands(used);
+    STORE(shared.doors[core].stopped, used);
+    gic_ring(SCP);
+}
+
+void tell_wake_up(unsigned core, uint64_t used) {
+    STORE(shared.doors[core].woken, used);
+    gic_ring(SCP);
 }
 
 void take_ack(void) {
@@ -68,33 +66,25 @@ void take_ack(void) {
     }
 }
 
-static void send_again(void) {
+/* The lock is taken, so no call comes between. */
+bool send_again(void) {
     static struct psci_frame before[CORES + 1];
-    static uint64_t last;
-    uint64_t now = read_register("cntpct_el0");
-    bool is_time = now - last >= period(), some = false;
+    bool some = false;
     for (unsigned number = 0; number <= CORES; number++) {
         struct psci_frame frame;
         psci_outstanding(&firmware, number, &frame);
-        if (is_time && frame.some && memcmp(&frame, &before[number], sizeof frame) == 0) {
+        if (frame.some && memcmp(&frame, &before[number], sizeof frame) == 0) {
             COUNT(again);
             put_frame(&shared.messages, frame.bytes);
-            gic_ring(SCP);
         }
-        if (is_time)
-            before[number] = frame;
+        before[number] = frame;
         some = some || frame.some;
     }
-    if (is_time)
-        last = now;
-    if (some)
-        start_timer();
+    return some;
 }
 
-void serve_link(bool is_time) {
+void serve_link(void) {
     lock();
     take_acks();
-    if (is_time)
-        send_again();
     unlock();
 }

@@ -40,7 +40,10 @@ static inline void take_acks(void) {
         take_ack();
 }
 
-/* Somebody rang, or this core's secure timer: takes what was acknowledged, and at the timer's ring what
- * was outstanding a while ago, and is still, goes into the mailbox once more. */
-void serve_link(bool is_time);
+/* Somebody rang this core: it takes what was acknowledged. */
+void serve_link(void);
+
+/* Under the lock, by the control processor as its timer rings: what was outstanding at its last ring, and is still, goes
+ * into the mailbox once more. Whether anything is outstanding. */
+bool send_again(void);
 #endif

@@ -1,22 +1,10 @@
-/* QEMU's machine `virt` with secure=on, virtualization=on, gic-version=2 or 3: what stands where. */
+/* What every machine has, and what stands where on this one: place.h is that of its board (boards/NAME). */
 #ifndef MACHINE_H
 #define MACHINE_H
 
-#define AFFINITY 0xff00ffffff  /* the affinity fields of MPIDR_EL1 */
-#define GICD 0x08000000
-#define GICC 0x08010000        /* version 2 */
-#define GICR 0x080a0000        /* version 3: so many bytes for each core, in any order */
-#define GICR_SIZE 0x20000
-#define UART 0x09040000        /* the secure PL011: QEMU's second -serial */
-#define PINS 0x090b0000        /* the secure PL061: pin 0 powers the machine off, pin 1 resets it */
-#define DEVICE_TREE 0x47000000 /* what the boot core gets in x0 */
+#include "place.h"
 
-/* Memory that the normal world can't reach. A reset of the machine leaves what it holds. */
-#define SECURE_MEMORY 0x0e000000
-#define STACKS 0x0e200000
-#define STACK 0x4000 /* of each core */
-#define RECORD_START 0x0e400000
-#define RECORD_END 0x0f000000
+#define AFFINITY 0xff00ffffff /* the affinity fields of MPIDR_EL1 */
 
 #ifndef __ASSEMBLER__
 #include <stdint.h>
@@ -32,9 +20,10 @@ static inline void wait_for_interrupt(void) { __asm__ volatile("dsb sy\n wfi" ::
 /* In a loop that waits for another core: it gives its turn away, where cores run in turn. */
 static inline void relax(void) { __asm__ volatile("yield"); }
 
-/* Of the stack of the core at this place in the list: its last word, at its lowest address. */
+/* Of the stack of the core at this place in the list: its last word, at its lowest address. The page below it has no
+ * memory (place.h), so that what is deeper is an exception. */
 static inline const volatile uint64_t *stack_end(unsigned at) {
-    return (const volatile uint64_t *)(uintptr_t)(STACKS + STACK * at);
+    return (const volatile uint64_t *)(uintptr_t)(STACKS + STACK * at + GUARD);
 }
 
 /* The end of this core's stack, with room for a word. */

@@ -1,22 +1,23 @@
-/* The map of EL3: 4 GB one to one, by blocks of 2 MB in the lowest one. */
-        .section .rodata.map, "a"
-        .global map
-        .balign 4096
-map:    .quad   low + 3
-        .quad   0x40000000 + 0x0040000000000721 /* memory of the normal world: NS, never executed */
-        .quad   0, 0
-
-        .macro  blocks many, kind
+/* The map of EL3, one to one: place.h has its tables, of the ranges of the board. */
+#define MAP
+        .macro  entries many, first, size, kind
+        .set    at, \first
         .rept   \many
         .quad   at + \kind
-        .set    at, at + 0x200000
+        .set    at, at + \size
         .endr
         .endm
-        .balign 4096
-        .set    at, 0
-low:    blocks  64, 0x781               /* the secure flash: code and constants, read alone */
-        blocks  48, 0x0040000000000405  /* devices, never executed */
-        blocks  8, 0x0040000000000701   /* the secure memory, never executed */
-        .rept   392
+        .macro  guarded many, first, pages, kind /* a page without memory below so many of each stack */
+        .set    at, \first
+        .rept   \many
         .quad   0
+        .rept   \pages
+        .quad   at + \kind
+        .set    at, at + 0x1000
         .endr
+        .set    at, at + 0x1000
+        .endr
+        .endm
+        .section .rodata.map, "a"
+        .global map
+#include "place.h"

@@ -1,4 +1,4 @@
-/* The monitor: what EL3 does with a call, and with the bell. docs/PORTING.md is its contract. */
+/* The monitor: what EL3 does with a call, and with the bell. docs/port/PORTING.md is its contract. */
 #include "console.h"
 #include "gic.h"
 #include "link.h"
@@ -108,4 +108,7 @@ void on_exception(struct context *context, uint64_t esr) {
         x[0] = on_call(this_core(), x);
 }
 
-void on_fiq(void) { serve_link(gic_answer()); }
+void on_fiq(void) {
+    gic_answer();
+    serve_link();
+}

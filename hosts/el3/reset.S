@@ -83,7 +83,8 @@ leave_for:
         dsb     nsh
         isb
 
-unexpected:
+unexpected:                             /* it ends the core's work, so its stack is empty again */
+        own_stack x1
         mrs     x1, esr_el3
         mrs     x2, elr_el3
         mrs     x3, far_el3
@@ -95,9 +96,10 @@ cold:
         msr     daifset, #15
         adr     x0, vectors
         msr     vbar_el3, x0
+        bl      before_caches
         mov     x0, #0x04ff             /* MAIR: 0 is normal, write-back; 1 is a device, nGnRE */
         msr     mair_el3, x0
-        ldr     x0, =0x80803520         /* TCR: 4 GB in pages of 4 KB, inner shareable, write-back */
+        ldr     x0, =TCR                /* as wide as the map, pages of 4 KB, inner shareable, write-back */
         msr     tcr_el3, x0
         adrp    x0, map
         msr     ttbr0_el3, x0
@@ -107,6 +109,8 @@ cold:
         ldr     x0, =SCTLR              /* the MMU and both caches are on, before any shared memory */
         msr     sctlr_el3, x0
         isb
+        ldr     x0, =FREQUENCY          /* what counts beside, and nobody has set before */
+        msr     cntfrq_el0, x0
         mov     x0, #0x535              /* SCR: NS, HCE, RW, FIQs come here, SMD clear */
         msr     scr_el3, x0
         msr     cptr_el3, xzr
@@ -117,7 +121,7 @@ cold:
         and     x0, x0, x1
         adr     x1, listed
         ldr     x2, =STACKS - 16
-        mov     x3, #CORES + 1
+        mov     x3, #STACKED
 1:      add     x2, x2, #STACK
         ldr     x4, [x1], #8
         cmp     x4, x0
@@ -131,10 +135,16 @@ cold:
         bl      on_reset
 
         .balign 8
+#ifdef SCP_MPIDR
 listed: .quad   MPIDRS, SCP_MPIDR
+        .set    STACKED, CORES + 1
+#else
+listed: .quad   MPIDRS
+        .set    STACKED, CORES
+#endif
 
-        .if STACKS + STACK * (CORES + 1) > RECORD_START
-        .error "the stacks of so many cores run into the record"
+        .if STACKS + STACK * STACKED > STACKS_END
+        .error "there are not so many stacks"
         .endif
 
 #ifdef STRICT                           /* SCTLR_EL3.A: an access that is not aligned is a fault */

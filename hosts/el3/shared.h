@@ -23,8 +23,12 @@ struct door {
 };
 
 /* Frames in the order in which they were made, of one writer (the holder of the lock, or the system
- * control processor) and one reader. One that is full drops what comes. */
+ * control processor) and one reader. One that is full drops what comes. Without that processor they stay empty. */
+#ifdef SCP_MPIDR
 enum { MOST_FRAMES = 256 };
+#else
+enum { MOST_FRAMES = 1 };
+#endif
 struct ring {
     uint8_t frames[MOST_FRAMES][PSCI_FRAME_LEN];
     uint32_t first, end;

@@ -2,9 +2,11 @@
  * anew. The power controller is made once, as the power comes on, and counts lives on. */
 #include "console.h"
 #include "gic.h"
+#include "hooks.h"
 #include "link.h"
 #include "monitor.h"
 #include "pool.h"
+#include "power.h"
 #include "record.h"
 #include "string.h"
 
@@ -59,10 +61,14 @@ void start_machine(void) {
     STORE(kept.boot, is_warm ? WARM : 0);
     memcpy(data_start, data_load, data_end - data_start);
     memset(bss_start, 0, bss_end - bss_start);
+    board_begins();
     if (is_cut)
         say("\n# el3: a reset that nobody here has ordered\n");
     if (!is_warm)
         open_controller();
     open_firmware();
+#ifndef SCP_MPIDR
+    open_first_door();
+#endif
     gic_start();
 }

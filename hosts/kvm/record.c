@@ -1,4 +1,4 @@
-/* The record of a run, as docs/RECORD.md has it. */
+/* The record of a run, as docs/compare/RECORD.md has it. */
 #include "vmm.h"
 
 #include <inttypes.h>

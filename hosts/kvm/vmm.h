@@ -60,7 +60,7 @@ void go_on_at(struct core *core, uint64_t address);
 void open_devices(void);
 void access_memory(struct kvm_run *run);
 
-/* record.c: docs/RECORD.md, written under the lock, so its order is that of the lock. */
+/* record.c: docs/compare/RECORD.md, written under the lock, so its order is that of the lock. */
 void record_into(const char *name, const char *board);
 void record_call(const struct core *core, const uint64_t *x, const struct psci_answer *answer);
 void record_enter(const struct core *core, const struct psci_answer *answer);

@@ -3,20 +3,20 @@
 
 A list has a line for each step:
     CORE call  X0 [X1 X2 X3]           a call that returns
-    CORE stop  X0 [..]                 a call that may not: the next step begins as it is made
+    CORE stop  X0 [..]                 a call that may not return: the next step begins with it
     CORE sleep X0 [..] for MICROSECONDS
-                                       a suspend with the core's timer set, until it returns, or the core enters
-    CORE poll  X0 [..] until CODE      asks until it gets this code, for 300 ms at most
+                                       a suspend with the core's timer set, until it returns or the core enters
+    CORE poll  X0 [..] until CODE      repeats the call until it returns CODE, for at most 300 ms
     CORE visit X0 [..] [by WORD]
                                        a CPU_ON whose target goes off as soon as it enters, by CPU_OFF or first by this
                                        word, until AFFINITY_INFO says so
-    CORE await CORE TIMES              until that core has entered so often, for 300 ms at most
+    CORE await CORE TIMES              until that core has entered TIMES times, for at most 300 ms
     CORE delay MICROSECONDS
     CORE storm SEED MANY STANDBY DOWN [1]
-                                       so many drawn calls of each core, with these power states (0: none); with 1
-                                       every second is one of the calls that are seldom made, good or bad
-    reset                              what follows is played after the reset of the system
-A step begins when all before it are over, for 3 s at most; one that begins with + runs beside the one before.
+                                       MANY drawn calls of each core, with these power states (0: none); with 1
+                                       every second call is a rare one, good or bad
+    reset                              the steps after it are played after a reset of the system
+A step begins when all before it are over, or after 3 s; one that begins with + runs beside the one before.
 Words are numbers, E0 to E15 (the payload's entry points), E1+2, B+16 or B-16 (beside where it is loaded), P+16 (beside
 its entry points far from it, places.c), and names of functions, as CPU_ON_64.
 """
@@ -81,7 +81,7 @@ def steps(lines):
                 core, kind, *words = text.lstrip("+ ").split()
                 made.append(step(int(core), kind, words, need, life))
             except (ValueError, IndexError):
-                sys.exit(f"assemble.py: line {number}: no line of a list has this form")
+                sys.exit(f"assemble.py: line {number}: not a line of a list")
     return b"".join(made), len(made)
 
 

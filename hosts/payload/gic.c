@@ -1,4 +1,4 @@
-/* The interrupt controller, version 2 or 3, as far as a pending timer has to end a WFI. */
+/* The interrupt controller, of version 2 or 3 or that of a BCM2836, as far as a pending timer has to end a WFI. */
 #include "clock.h"
 #include "machine.h"
 
@@ -47,8 +47,16 @@ static void version_3(void) {
     __asm__ volatile("msr S3_0_C12_C12_7, %0\n isb" ::"r"(1ul)); /* ICC_IGRPEN1_EL1 */
 }
 
+/* This core's physical timers, those of EL1 of both worlds, are interrupts. */
+static void of_bcm2836(void) {
+    uint64_t affinity;
+    __asm__("mrs %0, mpidr_el1" : "=r"(affinity));
+    store(machine.gic + 0x40 + 4 * (affinity & 3), 3);
+}
+
 void interrupts_ready(void) {
     timer_clear();
-    if (machine.gic_version == 3) version_3();
+    if (machine.gic_version == 0) of_bcm2836();
+    else if (machine.gic_version == 3) version_3();
     else version_2();
 }

@@ -5,10 +5,12 @@
 
 enum { MOST_CORES = 16 }; /* head.S, too */
 
+enum { OF_PL011, OF_8250, OF_CADENCE };
+
 struct machine {
     uint32_t is_smc, gic_version, cores;
     uint32_t timer; /* the number of the timer's interrupt */
-    uint64_t uart, uart_is_8250, virtio; /* the console: of a UART, or else of virtio */
+    uint64_t uart, uart_kind, virtio; /* the console: of a UART, or else of virtio */
     uint64_t gic, gic_of_core; /* the distributor; the CPU interface, or the redistributors */
     uint64_t memory, memory_end;
 };

@@ -7,7 +7,10 @@ enum {
     UART_FLAGS = 0x18,
     UART_FULL = 0x20,
     STATUS_8250 = 5,
-    EMPTY_8250 = 0x20
+    EMPTY_8250 = 0x20,
+    STATUS_CADENCE = 0x2c,
+    FULL_CADENCE = 0x10,
+    QUEUE_CADENCE = 0x30
 };
 
 static struct entry kept[MOST_ENTRIES];
@@ -18,7 +21,10 @@ static uint32_t many_told, sum;
 static void put(char letter) {
     if (!machine.uart) {
         virtio_put(letter);
-    } else if (machine.uart_is_8250) {
+    } else if (machine.uart_kind == OF_CADENCE) {
+        while (load(machine.uart + STATUS_CADENCE) & FULL_CADENCE) {}
+        store(machine.uart + QUEUE_CADENCE, (uint8_t)letter);
+    } else if (machine.uart_kind == OF_8250) {
         while (!(*(volatile uint8_t *)(machine.uart + STATUS_8250) & EMPTY_8250)) {}
         store_byte(machine.uart, (uint8_t)letter);
     } else {

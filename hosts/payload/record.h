@@ -1,4 +1,4 @@
-/* Writes the record (docs/JUDGE.md). */
+/* Writes the record (docs/compare/JUDGE.md). */
 #ifndef PAYLOAD_RECORD_H
 #define PAYLOAD_RECORD_H
 #include <stdint.h>

@@ -62,11 +62,14 @@ static void keep(const struct node *node, const struct node *above) {
     if (node->method) machine.is_smc = same(node->method, "smc");
     if (is_compatible(node, "arm,pl011") && !machine.uart) machine.uart = at;
     if (is_compatible(node, "ns16550a") && !machine.uart)
-        machine.uart = at, machine.uart_is_8250 = 1;
+        machine.uart = at, machine.uart_kind = OF_8250;
+    if (is_compatible(node, "cdns,uart-r1p12") && !machine.uart)
+        machine.uart = at, machine.uart_kind = OF_CADENCE;
     if (is_compatible(node, "virtio,mmio") && at && is_virtio_console(at)) machine.virtio = at;
     if (is_compatible(node, "arm,gic-v3")) keep_gic(node, above, 3);
     if (is_compatible(node, "arm,cortex-a15-gic") || is_compatible(node, "arm,gic-400"))
         keep_gic(node, above, 2);
+    if (is_compatible(node, "brcm,bcm2836-l1-intc")) machine.gic = at;
     /* the second interrupt is that of the physical timer of EL1; the first cell says that it is a
      * core's own */
     if (is_compatible(node, "arm,armv8-timer") && node->interrupts_length >= 24)

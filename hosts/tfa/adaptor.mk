@@ -1,7 +1,7 @@
 # The proved firmware in the place of lib/psci's decisions, included by TF-A's lib/psci/psci_lib.mk:
 #   make GUMDARTS=FOLDER [GUMDARTS_ARCHIVE=libpsci_ffi-strict-align.a] ..
 # GUMDARTS is the folder of this repository. GUMDARTS_RECORD=1 tells the record of the run
-# (docs/RECORD.md) on the crash console. A platform whose code may not be entered everywhere says so by
+# (docs/compare/RECORD.md) on the crash console. A platform whose code may not be entered everywhere says so by
 # validate_ns_entrypoint, or by GUMDARTS_EXEC_BASE and GUMDARTS_EXEC_END.
 GUMDARTS_ARCHIVE	?=	${GUMDARTS}/out/lib/aarch64/libpsci_ffi-strict-align.a
 GUMDARTS_FOLDER		?=	${GUMDARTS}/hosts/tfa

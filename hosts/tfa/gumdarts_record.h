@@ -1,4 +1,4 @@
-/* The record of a run (docs/RECORD.md), told as it happens on the crash console. It is there where
+/* The record of a run (docs/compare/RECORD.md), told as it happens on the crash console. It is there where
  * GUMDARTS_RECORD is 1, and else nothing of it is compiled. */
 #ifndef GUMDARTS_RECORD_H
 #define GUMDARTS_RECORD_H

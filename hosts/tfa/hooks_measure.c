@@ -13,6 +13,8 @@
 
 enum { ENTRY, ON, OFF, STANDBY, CORE_DOWN, CLUSTER_DOWN, SYSTEM_DOWN, POLL, OTHER, WORKS };
 enum { DOMAIN, START, REST, LOCKS };
+/* Lists play on the first cores alone, and BL31 of 2.12 has no room for 32. */
+enum { CORES = PLATFORM_CORE_COUNT < 8 ? PLATFORM_CORE_COUNT : 8 };
 
 static const char *const works[WORKS] = {
     "an entry", "CPU_ON", "CPU_OFF", "standby", "CPU_SUSPEND of a core", "CPU_SUSPEND of a cluster",
@@ -32,7 +34,7 @@ static struct {
     unsigned int work, deep;
     uint64_t since[8], begun[8], sum;
     struct tally held[WORKS][LOCKS], waited[WORKS][LOCKS], waits[WORKS];
-} cores[PLATFORM_CORE_COUNT];
+} cores[CORES];
 
 extern spinlock_t start_locks[PLATFORM_CORE_COUNT] __attribute__((weak));
 extern char __STACKS_START__[], __STACKS_END__[];
@@ -92,14 +94,18 @@ static void gives(unsigned int lock)
     count(&cores[core].waited[work][lock], cores[core].since[at] - cores[core].begun[at]);
 }
 
-/* The lock of a core that is being started: a table of them inside, a word of each core's node in TF-A. */
+static bool lies_in(const spinlock_t *lock, const void *table, size_t size)
+{
+    return table != NULL && (uintptr_t)lock - (uintptr_t)table < size;
+}
+
+/* The lock of a core that is being started: a table of them inside, a word of each core's node in TF-A. A domain's is a
+ * spin lock where the hardware keeps caches coherent. */
 static unsigned int kind(const spinlock_t *lock)
 {
-    uintptr_t at = (uintptr_t)lock, nodes = (uintptr_t)psci_cpu_pd_nodes, table = (uintptr_t)start_locks;
-    bool is_start = (at >= nodes && at < nodes + sizeof(psci_cpu_pd_nodes)) ||
-                    (table != 0U && at >= table && at < table + sizeof(start_locks));
-
-    return is_start ? START : REST;
+    if (lies_in(lock, psci_cpu_pd_nodes, sizeof(psci_cpu_pd_nodes)) || lies_in(lock, start_locks, sizeof(start_locks)))
+        return START;
+    return HW_ASSISTED_COHERENCY && lies_in(lock, psci_locks, sizeof(psci_locks)) ? DOMAIN : REST;
 }
 
 void __wrap_spin_lock(spinlock_t *lock)
@@ -180,7 +186,7 @@ static void tell_lock(unsigned int work, unsigned int lock)
 {
     struct tally held = {0U}, waited = {0U};
 
-    for (unsigned int core = 0U; core < PLATFORM_CORE_COUNT; core++) {
+    for (unsigned int core = 0U; core < CORES; core++) {
         add(&held, &cores[core].held[work][lock]);
         add(&waited, &cores[core].waited[work][lock]);
     }
@@ -192,7 +198,7 @@ static void tell_work(unsigned int work)
 {
     struct tally waits = {0U};
 
-    for (unsigned int core = 0U; core < PLATFORM_CORE_COUNT; core++)
+    for (unsigned int core = 0U; core < CORES; core++)
         add(&waits, &cores[core].waits[work]);
     tell_times("waited", works[work], "", &waits);
 }
@@ -234,7 +240,7 @@ static void tell_all(void)
             tell_lock(work, lock);
     for (unsigned int work = 0U; work < WORKS; work++)
         tell_work(work);
-    for (unsigned int core = 0U; core < PLATFORM_CORE_COUNT; core++)
+    for (unsigned int core = 0U; core < CORES; core++)
         tell_stack(core);
     tell_opening();
 }

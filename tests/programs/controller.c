@@ -1,6 +1,6 @@
 /* Tests the power controller's half of the C library where no script of hosts/ comes: numbers of
  * refusals, openings in ever less memory, what a call writes. What is wanted is written here, by
- * include/psci_ctl.h and docs/FORMATS.md. */
+ * include/psci_ctl.h and docs/port/FORMATS.md. */
 #include "pool.h"
 #include "psci_ctl.h"
 

@@ -1,6 +1,6 @@
 /* Tests the C library where no script of hosts/loop.c comes: numbers of refusals, openings in ever
  * less memory, what a call writes, and how much stack it takes. What is wanted is written here, by
- * include/psci.h and docs/FORMATS.md. The last line is 'stack N', by the call that took most. */
+ * include/psci.h and docs/port/FORMATS.md. The last line is 'stack N', by the call that took most. */
 #define _XOPEN_SOURCE 700
 #include "pool.h"
 #include "psci.h"

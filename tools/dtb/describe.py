@@ -1,4 +1,4 @@
-"""The text of a machine (docs/FORMATS.md) from the facts of its device tree, with what these do not say.
+"""The text of a machine (docs/port/FORMATS.md) from the facts of its device tree, with what these do not say.
 
 The tree of power domains is that of the PSCI power domains where there are some, else that of the
 affinity fields; a cpu-map, which is the scheduler's, is not looked at. A power state word is taken as
@@ -207,6 +207,7 @@ class Description:
                 "the memory of the tree is taken" if 0 < len(found) <= MOST_RANGES else
                 f"the tree has {len(found)} pieces of memory, and a board four ranges" if found else
                 "the tree has no memory, and a range is made up"))
+        self.unknown.append("where the boot core enters: the first of these addresses is taken")
         ranges = found if 0 < len(found) <= MOST_RANGES else [ANYWHERE]
         text = " ".join(f"{first:#x}-{end:#x}" for first, end in ranges)
         entry = ranges[0][0] + 3 & ~3
@@ -232,7 +233,7 @@ class Description:
         for word in self.words:
             yield f"word {word.word:#010x} {' '.join(map(str, self.rows[word.word]))}"
         yield " ".join(["functions", *functions])
-        yield from (f"# not told: {it}" for it in dict.fromkeys(self.unknown))
+        yield from (f"# not in the tree: {it}" for it in dict.fromkeys(self.unknown))
         yield from (f"# odd: {it}" for it in dict.fromkeys(self.facts.odd))
 
     def text(self):
@@ -260,4 +261,4 @@ def described(data, boot=None, ranges=(), method="psci"):
             text = Description(Facts(data, method), boot, ranges, True).text()
         return text
     except Fault as fault:
-        raise NoBoard(f"it is no device tree that can be read: {fault}") from fault
+        raise NoBoard(f"not a readable device tree: {fault}") from fault

@@ -90,7 +90,7 @@ class Blocks:
         (magic, total, structure, strings, _, version, least, _, strings_size,
          structure_size) = struct.unpack(">10I", data[:40])
         if magic != MAGIC:
-            raise Fault("it does not begin as a device tree")
+            raise Fault("it does not begin like a device tree")
         if version < VERSIONS[0] or least > VERSIONS[1]:
             raise Fault(f"it is of version {version}")
         if total > len(data):
@@ -98,7 +98,7 @@ class Blocks:
         # version 16 does not say how long the structure is
         end = structure + structure_size if version >= 17 else total
         if end > total or strings + strings_size > total:
-            raise Fault("a block of it ends behind it")
+            raise Fault("a block ends after the end of the file")
         self.structure, self.strings = data[structure:end], data[strings:strings + strings_size]
         self.at = 0
 
@@ -112,7 +112,7 @@ class Blocks:
     def text(block, at):
         end = block.find(b"\0", at)
         if not 0 <= at <= end:
-            raise Fault("a name of it has no end")
+            raise Fault("a name has no end")
         return block[at:end].decode("latin-1")
 
     def root(self):
@@ -140,6 +140,6 @@ class Blocks:
     def property(self, node):
         size, name = self.number(), self.number()
         if self.at + size > len(self.structure):
-            raise Fault("a property of it ends behind it")
+            raise Fault("a property ends after the end of its structure")
         node.properties[self.text(self.strings, name)] = self.structure[self.at:self.at + size]
         self.at = self.at + size + 3 & ~3

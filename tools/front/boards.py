@@ -16,7 +16,7 @@ class Tree:
 
     def cluster(self):
         at = self.reader.at
-        return at, self.reader.number("how many cores a cluster has", False, " ()")
+        return at, self.reader.number("the number of cores of a cluster", False, " ()")
 
     def read(self, levels):
         """A list of members between ( and ), at most so many lists deep."""
@@ -50,10 +50,10 @@ def read_board(text, at=0):
         reader.blank("a range, or boot")
         place = reader.at
         if ranges and not re.match("[0-9]", reader.text[place:]):
-            raise Wrong(place, f"{reader.here()}, and a range or 'boot' was expected")
+            raise Wrong(place, f"{reader.here()}; expected a range or 'boot'")
         first = reader.number("the first address of a range", True, " -")
-        reader.fixed("-", "- and the address behind the range")
-        ranges.append((place, first, reader.number("the address behind the range", True)))
+        reader.fixed("-", "- and the address after the range")
+        ranges.append((place, first, reader.number("the address after the range", True)))
     for word, hexadecimal in (("boot", True), ("starts", False), ("lives", False)):
         reader.blank(word)
         reader.fixed(word)
@@ -64,7 +64,7 @@ def read_board(text, at=0):
         reader.fixed("format")
         reader.blank("original or extended")
         if reader.word() not in ("original", "extended"):
-            raise Wrong(reader.at, f"{reader.here()}, and original or extended was expected")
+            raise Wrong(reader.at, f"{reader.here()}; expected original or extended")
         reader.at += len(reader.word())
         end_of(reader)
     return tree, ranges, limits

@@ -1,4 +1,4 @@
-"""Reads a line of a script by the grammar of docs/FORMATS.md."""
+"""Reads a line of a script by the grammar of docs/port/FORMATS.md."""
 import re
 
 from .reader import Reader, Wrong, end_of, near, strange
@@ -44,5 +44,5 @@ def unknown(word, names):
     if low == "board":
         return 0, "the board is in line 1, and in no other"
     like = near(low, list(names))
-    tip = f"is {like[-1]} meant?" if like else f"the words are {', '.join(names)}"
+    tip = f"did you mean {like[-1]}?" if like else f"expected one of {', '.join(names)}"
     return 0, f"unknown word '{word}': {tip}"

@@ -1,7 +1,7 @@
 """Runs the program on a script in the words of a machine: ./psci replay --machine FILE.
 
 Each line is translated as it comes, since which states can be asked for depends on the suspend mode,
-which the answers before it say. The script has the lines that docs/FORMATS.md has, but its calls are the
+which the answers before it say. The script has the lines that docs/port/FORMATS.md has, but its calls are the
 machine's; a core may be named by its MPIDR, in hexadecimal, and a function by its name. In decimal it has
 the firmware's number, which is 0 of the boot core.
 """

@@ -1,6 +1,6 @@
 """The text of a machine: its board, and what the machine calls its cores, states and functions.
 
-docs/FORMATS.md has its lines. What is read is what psci_platform calls a description, and beside it
+docs/port/FORMATS.md has its lines. What is read is what psci_platform calls a description, and beside it
 where each number stands, so that a fault can be shown.
 """
 import re
@@ -73,8 +73,8 @@ class Lines:
         word = reader.word()
         if word not in WORDS:
             like = near(word.lower(), list(WORDS))
-            raise Wrong(0, f"{reader.here()}" + (f": is {like[-1]} meant?" if like else
-                                                 f": the words are {', '.join(WORDS)}"))
+            raise Wrong(0, f"{reader.here()}" + (f": did you mean {like[-1]}?" if like else
+                                                 f": expected one of {', '.join(WORDS)}"))
         if word in (*ONCE, "system-suspend") and self.machine.places[word]:
             raise Wrong(0, f"a second line '{word}'")
         reader.at = len(word)
@@ -103,7 +103,7 @@ class Lines:
         word = reader.word()
         if word not in names:
             like = near(word.lower(), list(names))
-            tip = f"is {like[-1]} meant?" if like else f"{what} was expected: {', '.join(names)}"
+            tip = f"did you mean {like[-1]}?" if like else f"expected {what}: {', '.join(names)}"
             raise Wrong(reader.at, f"{reader.here()}: {tip}")
         reader.at += len(word)
         return word
@@ -127,7 +127,7 @@ class Lines:
         self.machine.boot = self.number(reader, "the MPIDR of the boot core", 2 ** 64)
 
     def read_levels(self, reader):
-        self.machine.levels = self.number(reader, "how many levels can be taken down", 2 ** 32, False)
+        self.machine.levels = self.number(reader, "the number of levels that can be taken down", 2 ** 32, False)
 
     def read_class(self, reader):
         level = self.number(reader, "a level, 0 to 3", LEVELS, False)
@@ -151,7 +151,7 @@ class Lines:
             self.places[-1] = At(self.line, reader.at)
             mask = reader.number("the bits that count", True)
             if mask >= 2 ** 32:
-                raise Wrong(self.places[-1].at, "the bits that count are 32 at most")
+                raise Wrong(self.places[-1].at, "the mask has at most 32 bits")
         self.machine.rows.append(Row(word, mask, self.states(reader)))
 
     def read_system_suspend(self, reader):
@@ -162,7 +162,7 @@ class Lines:
         while not reader.is_done():
             found.append(self.name(reader, FUNCTIONS, "a function"))
             if found.count(found[-1]) > 1:
-                raise Wrong(self.places[-1].at, f"{found[-1]} a second time")
+                raise Wrong(self.places[-1].at, f"{found[-1]} is given twice")
         self.machine.functions = frozenset(found)
 
     def read_reset(self, reader):
@@ -174,7 +174,7 @@ class Lines:
             count = self.classed[level] or 1
             if number >= count:
                 return where, (f"state {number} of level {level}, which has "
-                               f"{f'the states 0 to {count - 1}' if count > 1 else 'no line of classes'}")
+                               f"{f'only states 0 to {count - 1}' if count > 1 else 'no line of classes'}")
         return None
 
 
@@ -203,7 +203,7 @@ def read(text):
     last = At(len(lines) - (not lines[-1] and len(lines) > 1), 0)
     for word in ONCE:
         if not machine.places[word]:
-            raise Fault(0, last, f"the text ends, and there is no line '{word}'")
+            raise Fault(0, last, f"missing line '{word}'")
     missing = reading.missing_class()
     if missing:
         raise Fault(0, *missing)
@@ -211,5 +211,5 @@ def read(text):
 
 
 def words_of(number):
-    """The words of a fault, as docs/FORMATS.md has them."""
+    """The words of a fault, as docs/port/FORMATS.md has them."""
     return re.sub("`", "", faults.words_of("machine")[number].partition(": ")[2])

@@ -1,7 +1,7 @@
 """Scripts by name: calls whose registers are names, made plain, and plain calls said by name.
 
 In a line `call CORE NAME ..` the name of a function stands for its word, and arguments may be names, too, as
-docs/FORMATS.md has them, in capitals or small letters.
+docs/port/FORMATS.md has them, in capitals or small letters.
 """
 import re
 from collections import namedtuple
@@ -139,7 +139,7 @@ def argument(board, kind, word, at):
     found = {"core": board.domain, "domain": board.domain, "state": board.state, "mode": MODES.get,
              "function": word_of_any}.get(kind, lambda name: None)(word.lower())
     if found is None or (kind == "core" and found[1] != 0):
-        raise Wrong(at, f"'{word}', and {EXPECTED.get(kind, 'a number')} was expected")
+        raise Wrong(at, f"'{word}'; expected {EXPECTED.get(kind, 'a number')}")
     if kind == "domain":
         return [f"{found[0]:#x}", str(found[1])]
     return [f"{found[0] if kind == 'core' else found:#x}"]
@@ -156,7 +156,7 @@ def called(name, at):
     word = word_of_any(name.lower())
     if word is None:
         like = near(name.lower(), list(FUNCTIONS))
-        raise Wrong(at, f"unknown function '{name}'" + (f": is {like[-1]} meant?" if like else ""))
+        raise Wrong(at, f"unknown function '{name}'" + (f": did you mean {like[-1]}?" if like else ""))
     return word
 
 

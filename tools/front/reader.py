@@ -29,13 +29,13 @@ class Reader:
     def blank(self, expected):
         """The one blank before what is expected, which has to follow."""
         if self.is_done():
-            raise Wrong(self.at, f"the line ends, and {expected} was expected")
+            raise Wrong(self.at, f"the line ends; expected {expected}")
         if self.text[self.at] != " ":
-            raise Wrong(self.at, f"{strange(self.text[self.at])}, and a blank was expected")
+            raise Wrong(self.at, f"{strange(self.text[self.at])}; expected a blank")
         if self.text[self.at:].strip(" ") == "":
             raise Wrong(self.at, "a blank at the end of the line")
         if self.text[self.at + 1] == " ":
-            raise Wrong(self.at + 1, "two blanks, and one was expected")
+            raise Wrong(self.at + 1, "two blanks; expected one")
         self.at += 1
 
     def number(self, what, hexadecimal=None, ends=" "):
@@ -51,7 +51,7 @@ class Reader:
     def fixed(self, text, expected=None):
         """Reads this text."""
         if not self.text.startswith(text, self.at):
-            raise Wrong(self.at, f"{self.here()}, and {expected or repr(text)} was expected")
+            raise Wrong(self.at, f"{self.here()}; expected {expected or repr(text)}")
         self.at += len(text)
 
     def here(self):
@@ -68,7 +68,7 @@ def strange(letter):
              " ": "a blank", "\ufeff": "a byte order mark", "\0": "a zero byte"}
     if letter in names:
         return names[letter]
-    return f"'{letter}'" if letter.isascii() and letter.isprintable() else "a byte that is no ASCII letter"
+    return f"'{letter}'" if letter.isascii() and letter.isprintable() else "a byte outside ASCII"
 
 
 def number_fault(word, what, hexadecimal):
@@ -77,7 +77,7 @@ def number_fault(word, what, hexadecimal):
             True: "a number in hexadecimal, as 0x1f"}[hexadecimal]
     bad = re.search(r"[^ -~]", word)
     if bad:
-        return bad.start(), f"{strange(bad[0])}, and {what} was expected"
+        return bad.start(), f"{strange(bad[0])}; expected {what}"
     if word.startswith("#"):
         return 0, "a comment needs a line of its own, and cannot follow an event"
     if word.startswith("0X"):
@@ -88,7 +88,7 @@ def number_fault(word, what, hexadecimal):
         return None if int(word) < 2 ** 64 else (0, f"{what} is above {2 ** 64 - 1}")
     if hexadecimal is not True and re.fullmatch(r"0[0-9]+", word):
         return 0, f"{what} begins with a zero"
-    return 0, f"{repr(word) if word else 'nothing'}, and {what} was expected, {form}"
+    return 0, f"{repr(word) if word else 'nothing'}; expected {what}, {form}"
 
 
 def end_of(reader):
@@ -98,7 +98,7 @@ def end_of(reader):
     reader.blank("the end")
     if reader.word().startswith("#"):
         raise Wrong(reader.at, "a comment needs a line of its own, and cannot follow an event")
-    raise Wrong(reader.at, "a word too many: the line was expected to end")
+    raise Wrong(reader.at, "a word too many: expected the end of the line")
 
 
 def near(word, names):

@@ -166,7 +166,7 @@ def run(program, words, file=0, output=None, board=None, keep=None, looks=False,
     event there. A guess says how far it is where nothing else does."""
     script = Script(file)
     if script.comes_by and os.isatty(script.file):
-        say("the script comes from the terminal, and Ctrl-D ends it")
+        say("reading the script from the terminal; Ctrl-D ends it")
     with tempfile.TemporaryFile() as said:
         process = subprocess.Popen(["psci", *words], executable=program, stdout=output, stderr=said, bufsize=0,
                                    stdin=script.source())
@@ -233,7 +233,7 @@ def not_written(keep=None, fault=None):
         return 128 + signal.SIGPIPE
     if keep is not None and why is None:
         name, why = f"--keep {keep}", reason_of(keep)
-    complain(f"write fault\npsci: {name} is not written whole: {why or 'the file takes no more'}\n")
+    complain(f"write fault\npsci: {name} was not written completely: {why or 'the file takes no more'}\n")
     return 4
 
 

@@ -1,7 +1,7 @@
 """The fault of a script or a board in words: which column, and what was expected there.
 
 The program's own line names the fault by its number. Here the line is read again, by the grammar of
-docs/FORMATS.md, up to the first byte that does not fit it; a call by name as it was written.
+docs/port/FORMATS.md, up to the first byte that does not fit it; a call by name as it was written.
 """
 import re
 
@@ -18,17 +18,17 @@ MOST_BYTES = 256
 def no_board(line):
     """The place and the words where line 1 gives no board."""
     if not line:
-        return 0, "line 1 has to be the board, as `board (2 2) exec 0x0-0x1000 boot 0x0 starts 9 lives 3`"
+        return 0, "line 1 must be the board, as `board (2 2) exec 0x0-0x1000 boot 0x0 starts 9 lives 3`"
     word = line.partition(" ")[0]
     if line.startswith("#"):
-        return 0, "a comment: line 1 has to be the board, and comments come behind it"
+        return 0, "a comment: line 1 must be the board, and comments follow it"
     if line[0] in " \t\ufeff":
-        return 0, f"{strange(line[0])}: line 1 has to begin with 'board '"
+        return 0, f"{strange(line[0])}: line 1 must begin with 'board '"
     if word == "board":
-        return 5, "the board's text was expected, behind one blank"
+        return 5, "expected one blank and the board's text"
     if word.lower() == "board":
         return unknown(word, ["board"])
-    return 0, "line 1 has to be the board, as `board TEXT`"
+    return 0, "line 1 must be the board, as `board TEXT`"
 
 
 def place_of(kind, number, line, first):

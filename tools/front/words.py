@@ -17,10 +17,11 @@ from .reader import near, pointed
 from .running import write
 
 BOARD = "(2 2) exec 0x40000000-0x40100000 boot 0x40000000 starts 1000 lives 3"
-STATUS = """Exit status: 0 done, 1 not proved or not run, 2 command line, 3 script, record or machine, 4 read or write,
-5 memory, 6 what threads, a port or a seed did, 7 what is undecided or left, or no event to look at
+STATUS = """Exit status: 0 done, 1 not proved or not run, 2 wrong command line, 3 wrong script, record or machine,
+4 read or write failed, 5 out of memory, 6 threads at fault, or a port or seed differs,
+7 undecided, unfinished or no event
 """
-MINUTES = "The minutes are those of four processors with 3 GiB each."
+MINUTES = "Times are for a first run on four processors with 3 GiB each."
 COMMAND_FAULT = 2
 # what a board's text has at most, so that `board TEXT` is a line of a script
 MOST_OF_BOARD = 250
@@ -43,7 +44,7 @@ class Once(argparse.Action):
     def __call__(self, parser, found, values, option_string=None):
         seen = found.__dict__.setdefault("seen", set())
         if self.dest in seen and not parser.may_repeat:
-            raise argparse.ArgumentError(self, "stands here a second time")
+            raise argparse.ArgumentError(self, "is given twice")
         seen.add(self.dest)
         setattr(found, self.dest, True if self.nargs == 0 else values)
 
@@ -120,7 +121,7 @@ class Words(argparse.ArgumentParser):
     def fault(self, at, why, expected=None):
         name = self.name.split()
         fault([*name, *self.words], at + len(name), why,
-              f"{expected or f'`{self.form}`'}; `psci {self.name} --help` says more")
+              f"{expected or f'`{self.form}`'}; see `psci {self.name} --help`")
 
     def place(self, word):
         """The last word that is this one, or begins with this one and =."""
@@ -138,22 +139,22 @@ class Words(argparse.ArgumentParser):
         why = why.replace("not allowed with argument", "does not go with")
         if at < 0:
             self.fault(next((it for it, word in enumerate(self.words) if why.startswith(shown(word))), 0), why)
-        is_value = "=" not in self.words[at] and "was expected" in why
-        self.fault(at + is_value, f"{name}{':' if ' was expected' in why else ''} {why}")
+        is_value = "=" not in self.words[at] and "; expected" in why
+        self.fault(at + is_value, f"{name}{':' if '; expected' in why else ''} {why}")
 
     def no_option(self, word, known):
         """An option that there is not."""
         at = self.words.index(word)
         if word == "--unproved":
-            self.fault(at, "--unproved stands before the command", "`psci --unproved " + self.name + " ..`")
+            self.fault(at, "--unproved goes before the command", "`psci --unproved " + self.name + " ..`")
         name = word.partition("=")[0]
         like = near(name, [it for it in known if it.startswith("--")])
-        tip = f": is {like[0]} meant?" if like else ""
+        tip = f": did you mean {like[0]}?" if like else ""
         self.fault(at, f"{self.name} has no option {shown(name)}{tip}")
 
     def error(self, message):
         """What argparse finds in the end: a word that is not there, or two that do not go together."""
-        self.fault(len(self.words), message.replace("the following arguments are required: ", "the line ends without "))
+        self.fault(len(self.words), message.replace("the following arguments are required: ", "missing "))
 
 
 def shown(word):
@@ -167,7 +168,7 @@ def number(low, high):
     """A number in decimal, as it was typed."""
     def read(text):
         if not re.fullmatch(r"\+?[0-9]{1,40}", text) or not low <= int(text) <= high:
-            raise argparse.ArgumentTypeError(f"{shown(text)}, and a number from {low} to {high} was expected")
+            raise argparse.ArgumentTypeError(f"{shown(text)}; expected a number from {low} to {high}")
         return int(text)
     return read
 
@@ -176,8 +177,8 @@ def one_of(*names):
     def read(text):
         if text not in names:
             like = near(text, names)
-            raise argparse.ArgumentTypeError(f"{shown(text)}, and {', '.join(names[:-1])} or {names[-1]} was expected"
-                                             + (f": is {like[0]} meant?" if like else ""))
+            raise argparse.ArgumentTypeError(f"{shown(text)}; expected {', '.join(names[:-1])} or {names[-1]}"
+                                             + (f": did you mean {like[0]}?" if like else ""))
         return text
     read.names = names
     return read
@@ -187,61 +188,63 @@ def seeds(text):
     """The first and the last one of a range of seeds."""
     match = re.fullmatch(r"([0-9]{1,18})\.\.([0-9]{1,18})", text)
     if not match or int(match[1]) > int(match[2]):
-        raise argparse.ArgumentTypeError(f"{shown(text)}, and FIRST..LAST was expected, the lower seed first, each of "
-                                         "at most 18 digits")
+        raise argparse.ArgumentTypeError(f"{shown(text)}; expected FIRST..LAST, the lower seed first, each of at most "
+                                         "18 digits")
     return int(match[1]), int(match[2])
 
 
 # ---- what the commands of scripts and runs take
 
-def script(words, text="the script; without it, or as -, standard input"):
+def script(words, text="the script; standard input if left out or -"):
     words.add_argument("file", metavar="FILE", nargs="?", help=text)
 
 
 def machine(words):
     words.add_argument("--machine", metavar="FILE",
-                       help="the calls are those of the machine that this file describes (docs/BOARDS.md)")
+                       help="read calls in the words of the machine that FILE describes (docs/port/BOARDS.md)")
 
 
 def replay():
-    words = Words("replay", "Answers each event of a script by a line.", "[--machine FILE] [FILE]",
-                  "A script has a board in line 1, and events behind it: `call CORE X0 ..`, or by name as\n"
+    words = Words("replay", "Answers each event of a script with a line.", "[--machine FILE] [FILE]",
+                  "A script has its board in line 1, then events: `call CORE X0 ..`, or by name as\n"
                   "`call 0 CPU_ON 3 0x40001000 0x7`, `enter CORE`, `wake CORE`, `reset CORE`, `deliver K`,\n`take K`.\n\n"
                   "Example:\n"
                   f"  printf '%s\\n' 'board {BOARD}' \\\n"
                   "      'enter 0' 'call 0 PSCI_VERSION' | ./psci replay\nwrites\n"
-                  "  1 enter 0x40000000 0x0\n  2 return 65537\n\ndocs/FORMATS.md has every line and name.\n")
+                  "  1 enter 0x40000000 0x0\n  2 return 65537\n\ndocs/port/FORMATS.md has every line and name.\n")
     machine(words)
     script(words)
     return words
 
 
 def storm_of(words, seeds_too):
-    words.add_argument("--board", metavar="TEXT", help="the board; without it two clusters of two cores")
+    words.add_argument("--board", metavar="TEXT", help="the board; two clusters of two cores if left out")
     words.add_argument("--seed", metavar="N", type=number(0, 2 ** 64 - 1), required=not seeds_too,
-                       help="what is drawn comes from it, 0 to 18446744073709551615")
+                       help="the seed of all random choices, 0 to 18446744073709551615")
     words.add_argument("--count", metavar="N", type=number(0, 10000), required=True,
-                       help="events, or calls of each core, 0 to 10000")
-    words.flag("--counts", help="a line more for each tally, or for each core")
-    words.add_argument("--keep", metavar="FILE", help="write the run into this file, as a script")
+                       help="number of events, or of calls of each core, 0 to 10000")
+    words.flag("--counts", help="print one more line for each tally, or for each core")
+    words.add_argument("--keep", metavar="FILE", help="write the run to FILE, as a script")
     words.rule(lambda it: it.keep and it.board and len(it.board.encode(errors="replace")) > MOST_OF_BOARD, "--keep",
-               lambda it: f"is a script, and takes a board of {MOST_OF_BOARD} bytes: this has {len(it.board.encode())}")
+               lambda it: f"writes a script, whose board has at most {MOST_OF_BOARD} bytes: this has "
+                          f"{len(it.board.encode())}")
 
 
 def storm():
-    words = Words("storm", "Makes random events happen on a board, and lets it settle. A seed has one storm.",
+    words = Words("storm", "Makes random events on a board, then lets it settle. The same seed makes the same storm.",
                   "(--seed N | --seeds FIRST..LAST) --count N [--board TEXT] [--counts] [--keep FILE]")
     storm_of(words, seeds_too=True)
-    words.add_argument("--seeds", metavar="FIRST..LAST", type=seeds, help="a storm of each of these, a line for each")
-    words.rule(lambda it: it.seed is None and it.seeds is None, "--seed", "is not there, and no --seeds")
+    words.add_argument("--seeds", metavar="FIRST..LAST", type=seeds,
+                       help="make a storm of each seed, with a line for each")
+    words.rule(lambda it: it.seed is None and it.seeds is None, "--seed", "or --seeds is missing")
     for name in ("seed", "counts", "keep"):
         words.rule(lambda it, name=name: it.seeds and getattr(it, name) not in (None, False), f"--{name}",
-                   "is of one storm, and not of --seeds")
+                   "is for one storm, not for --seeds")
     return words
 
 
 def threads():
-    words = Words("threads", "Starts a thread for each core, and audits what they did.",
+    words = Words("threads", "Runs a thread for each core, and audits their calls.",
                   "--seed N --count N [--board TEXT] [--counts] [--keep FILE]")
     storm_of(words, seeds_too=False)
     return words
@@ -250,22 +253,22 @@ def threads():
 def view(words):
     """A part of a run, and when its events happened."""
     window.add_words(words)
-    words.add_argument("--clock", metavar="FILE", help="when each event happened, in nanoseconds, an event a line")
+    words.add_argument("--clock", metavar="FILE", help="the time of each event in nanoseconds, one line each")
 
 
 def show():
-    words = Words("show", "Says the run of a script in words, with the state of each core and power domain.",
+    words = Words("show", "Shows the run of a script in words, with the state of each core and power domain.",
                   "[OPTIONS] [FILE]")
     forms = words.add_mutually_exclusive_group()
-    for name, text in (("json", "an object for the board, and one for each event"),
-                       ("changes", "of each event what changed"), ("script", "the run as a script by name"),
-                       ("trace", "a JSON trace, which Perfetto and the browser's viewer open"),
-                       ("vcd", "value changes, which wave viewers open")):
+    for name, text in (("json", "print JSON: an object for the board, and one for each event"),
+                       ("changes", "print only what each event changed"), ("script", "print the run as a script by name"),
+                       ("trace", "print a JSON trace, for Perfetto or a browser's viewer"),
+                       ("vcd", "print value changes, for wave viewers")):
         words.actions.append(forms.add_argument(f"--{name}", action=Once, nargs=0, default=False, help=text))
-    words.flag("--legend", help="say first what letters and marks mean")
-    words.add_argument("--width", metavar="COLUMNS", type=number(0, 65535), help="how wide lines are, from 40")
+    words.flag("--legend", help="explain letters and marks first")
+    words.add_argument("--width", metavar="COLUMNS", type=number(0, 65535), help="the width of lines, 40 or more")
     words.add_argument("--color", metavar="WHEN", type=one_of("auto", "always", "never"), default="auto",
-                       help="auto, always or never")
+                       help="auto (color on a terminal unless NO_COLOR is set), always or never")
     view(words)
     words.rule(lambda it: it.clock and not (it.trace or it.vcd), "--clock", "goes with --trace or --vcd")
     machine(words)
@@ -275,7 +278,7 @@ def show():
 
 def draw():
     words = Words("draw", "Draws the run of a script as SVG, or as a page of HTML.", "[OPTIONS] [FILE] > PICTURE")
-    words.flag("--page", help="a page for runs of any size, to zoom, step and search in")
+    words.flag("--page", help="make a page, to zoom, step and search in runs of any size")
     view(words)
     words.rule(lambda it: it.clock and not it.page, "--clock", "goes with --page")
     machine(words)
@@ -284,61 +287,63 @@ def draw():
 
 
 def serve():
-    words = Words("try", "Serves a page on 127.0.0.1 that runs scripts as one types. Ctrl-C ends it.",
+    words = Words("try", "Serves a page on 127.0.0.1 that runs scripts as you type. Ctrl-C ends it.",
                   "[--port N] [FILE]")
     words.add_argument("--port", metavar="N", type=number(0, 65535), default=0,
-                       help="the port of the page; without it any that is free")
+                       help="the port of the page; any free one if left out")
     script(words, "the script to begin with")
     return words
 
 
 def plain():
-    words = Words("plain", "Makes a script by name one of registers, line for line.", "[--machine FILE] [FILE]",
-                  "Of `call 0 CPU_ON 3 0x40001000 0x7` it makes `call 0 0xC4000003 0x101 0x40001000 0x7`, on a board\n"
-                  "(2 2). docs/FORMATS.md has every name.\n")
+    words = Words("plain", "Turns the calls by name of a script into calls by register, line for line.",
+                  "[--machine FILE] [FILE]",
+                  "On a board (2 2) it turns `call 0 CPU_ON 3 0x40001000 0x7` into `call 0 0xC4000003 0x101 0x40001000 0x7`.\n"
+                  "docs/port/FORMATS.md has every name.\n")
     machine(words)
     script(words)
     return words
 
 
 def compare():
-    words = Words("compare", "Compares the record of a port's run (docs/RECORD.md) with the program.",
+    words = Words("compare", "Compares the record of a port's run (docs/compare/RECORD.md) with the program.",
                   "[--quick] [--machine FILE] [--script FILE] RECORD",
-                  "A record of the calls of any firmware, with a line 'psci: head', is judged instead\n"
-                  "(docs/JUDGE.md): `psci compare --declare --help` has the options for that.\n")
-    words.flag("--quick", help="leave the second model out")
+                  "Judges a record of any firmware's calls, which has a line 'psci: head' (docs/compare/JUDGE.md):\n"
+                  "see `psci compare --declare --help`.\n")
+    words.flag("--quick", help="leave out the second model")
     machine(words)
     words.add_argument("--script", metavar="FILE", help="keep the run as a script, and the port's answers in FILE.out")
-    words.add_argument("record", metavar="RECORD")
+    words.add_argument("record", metavar="RECORD", help="the record of one run")
     return words
 
 
 def prove():
-    words = Words("prove", "Proves what ./psci runs, and builds it; what was proved is kept in ~/.cache/gumdarts.",
+    words = Words("prove", "Proves and builds what ./psci runs; proved crates are kept in ~/.cache/gumdarts.",
                   "[all | lib [--target MACHINE] [--unproved]]",
-                  "prove        the program of replay: from nothing about 12 minutes\n"
+                  "prove        the program of replay: about 12 minutes\n"
                   "prove all    the program of every command: 20 to 30 minutes\n"
-                  "prove lib    the C library into out/lib; with --unproved in a minute, marked so\n\n"
+                  "prove lib    the C library, into out/lib; with --unproved in a minute, marked as unproved\n\n"
                   f"{MINUTES}\n")
-    words.add_argument("what", metavar="WHAT", nargs="?", type=one_of("all", "lib"), help="all, or lib")
+    words.add_argument("what", metavar="WHAT", nargs="?", type=one_of("all", "lib"),
+                       help="all or lib; the program of replay if left out")
     words.add_argument("--target", metavar="MACHINE", type=one_of("x86_64", "aarch64"),
-                       help="of lib: x86_64, or aarch64")
-    words.flag("--unproved", help="of lib: compile it before any proof, into out/lib/MACHINE-unproved")
+                       help="for lib: x86_64 or aarch64")
+    words.flag("--unproved", help="for lib: compile it without a proof, into out/lib/MACHINE-unproved")
     words.rule(lambda it: it.target and it.what != "lib", "--target", "goes with lib")
     words.rule(lambda it: it.unproved and it.what != "lib", "--unproved", "goes with lib")
     return words
 
 
 COMMANDS = {
-    "replay": (replay, "answer a script, a line for each event"),
-    "show": (show, "say its run in words, with the state of each core and power domain"),
-    "draw": (draw, "draw it, or with --page make a page of it, for runs of any size"),
-    "try": (serve, "serve a page on this machine that runs scripts as one types"),
-    "plain": (plain, "make a script by name, as `call 0 CPU_ON 3`, one of registers"),
-    "storm": (storm, "make random events, and let the board settle"),
-    "threads": (threads, "start a thread for each core, and audit what they did"),
+    "replay": (replay, "answer a script, one line for each event"),
+    "show": (show, "show its run in words, with the state of each core and power domain"),
+    "draw": (draw, "draw its run, or with --page make a page of it"),
+    "try": (serve, "serve a page on this machine that runs scripts as you type"),
+    "plain": (plain, "turn calls by name, as `call 0 CPU_ON 3`, into calls by register"),
+    "storm": (storm, "make random events, then let the board settle"),
+    "threads": (threads, "run a thread for each core, and audit their calls"),
     "compare": (compare, "compare the record of a port's run with the program, or judge any firmware's calls"),
-    "sweep": (None, "make runs from many seeds, on all processors or on many machines"),
+    "sweep": (None, "run many seeds, on all processors or on many machines"),
     "prove": (prove, "prove and build the program, or the C library"),
 }
 FIRST = ("help", "--help", "--version", "--unproved")
@@ -347,20 +352,21 @@ FIRST = ("help", "--help", "--version", "--unproved")
 def help_text():
     """The help of ./psci."""
     rows = "".join(f"  {name:8} {text}\n" for name, (_, text) in COMMANDS.items())
-    return ("Power firmware whose answers are proved: runs of scripts of PSCI calls.\n\n"
-            "Usage: psci [--unproved] COMMAND [WORDS] [FILE]\n\n"
+    return ("Power firmware whose answers are proved: runs scripts of PSCI calls.\n\n"
+            "Usage: psci [--unproved] COMMAND [OPTIONS] [FILE]\n\n"
             f"Commands:\n{rows}  help     print this, or the help of a command: psci help show\n\n"
-            "Before a command:\n  --unproved    run the program unproved in any case\n  --version\n\n"
-            "A script comes from a FILE that is named, or from standard input; its calls have registers or names.\n\n"
+            "Before a command:\n  --unproved    run an unproved program, even if a proved one is there\n"
+            "  --version     print the version\n\n"
+            "A script is read from FILE, or from standard input; its calls have registers or names.\n\n"
             f"{STATUS}")
 
 
 def no_command(words, at):
     """Ends where a word is no command."""
     like = near(words[at], [*COMMANDS, *FIRST]) if at < len(words) else []
-    why = f"{shown(words[at])} is no command" if at < len(words) else "the line ends"
-    fault(words, at, why + (f": is {like[0]} meant?" if like else ""),
-          f"a command: {', '.join(COMMANDS)}; `psci --help` says what each does")
+    why = f"{shown(words[at])} is not a command" if at < len(words) else "missing command"
+    fault(words, at, why + (f": did you mean {like[0]}?" if like else ""),
+          f"a command: {', '.join(COMMANDS)}; see `psci --help`")
 
 
 def version():

@@ -12,8 +12,8 @@ from .verdict import AGREES, DIFFERS, UNDECIDED, judged
 
 STATUS = {AGREES: 0, DIFFERS: 6, UNDECIDED: 7}
 COMMAND, RECORD, READ = 2, 3, 4
-ENDING = """It ends with 0 where all agree, or where a baseline has just the groups that were seen; with 6 where a record
-differs, or otherwise than the baseline; with 7 where one is undecided and none differs.
+ENDING = """Status 0: all agree, or differ only by the groups of the baseline; 6: a record differs, or its groups are not
+those of the baseline; 7: a record is undecided, and none differs.
 """
 
 
@@ -21,19 +21,19 @@ def parser():
     """What is taken."""
     found = Words("compare", "Judges records of the calls of any PSCI firmware.", "--profile FILE [OPTIONS] RECORD..", ENDING)
     add = found.add_argument
-    add("records", metavar="RECORD", nargs="+", help="docs/JUDGE.md has its lines")
-    add("--profile", metavar="FILE", help="what the firmware declares of itself")
-    found.flag("--declare", help="print the profile's line of functions, as PSCI_FEATURES has it")
+    add("records", metavar="RECORD", nargs="+", help="a record of calls (docs/compare/JUDGE.md)")
+    add("--profile", metavar="FILE", help="the profile of the firmware: its board, functions, power states")
+    found.flag("--declare", help="print a profile's line of functions, from the answers to PSCI_FEATURES")
     found.flag("--tallies", help="print how often each function had each answer, and in which lists")
     found.flag("--each", help="print each difference")
     found.flag("--times", help="print the seconds and states of each search")
-    add("--baseline", metavar="FILE", help="groups that are known; new and vanished ones fail")
-    add("--write-baseline", metavar="FILE", help="keep the groups that were seen")
-    found.flag("--tap", help="print TAP alone")
+    add("--baseline", metavar="FILE", help="compare with known groups: new and vanished ones fail")
+    add("--write-baseline", metavar="FILE", help="write the groups that were seen")
+    found.flag("--tap", help="print only TAP")
     add("--junit", metavar="FILE", help="write JUnit's XML")
-    add("--bound", metavar="N", type=number(1, 10 ** 9), default=20000, help="states for one answer, 20000")
-    add("--limit", metavar="SECONDS", type=float, default=60, help="seconds for one record, 60")
-    found.flag("--whole", help="search without reductions from the start")
+    add("--bound", metavar="N", type=number(1, 10 ** 9), default=20000, help="most states for one answer (20000)")
+    add("--limit", metavar="SECONDS", type=float, default=60, help="most seconds for one record (60)")
+    found.flag("--whole", help="search without reductions")
     return found
 
 
@@ -95,7 +95,7 @@ def main(words):
             print("\n".join(tallies.lines(*zip(*lives_of))))
             return 0
         if not words.profile:
-            end(COMMAND, "a record of calls needs --profile FILE; docs/JUDGE.md says what stands there")
+            end(COMMAND, "a record of calls needs --profile FILE (docs/compare/JUDGE.md)")
         return judge(words, lives_of, profile.read(words.profile))
     except sentence.Nothing as why:
         end(STATUS[UNDECIDED], why)

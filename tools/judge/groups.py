@@ -1,6 +1,6 @@
 """Differences of one kind: function, their answer, ours, and what it is.
 
-What the standard says is told in the words of docs/SUPPORT.md, by the name of the function's
+What the standard says is told in the words of docs/port/SUPPORT.md, by the name of the function's
 section (DEN0022D; the calling convention is DEN0028), and not by a number.
 """
 from collections import namedtuple
@@ -22,7 +22,7 @@ def theirs_of(operation):
 
 
 def in_words(answers):
-    return " or ".join(sorted({it.split(" 0x")[0].replace("enter", "enters otherwise") for it in answers}))
+    return " or ".join(sorted({it.split(" 0x")[0].replace("enter", "enters differently") for it in answers}))
 
 
 class Case:
@@ -55,26 +55,26 @@ class Case:
 # the first rule that holds says what a difference is
 RULES = (
     (lambda it: it.word is not None and it.regs[0] > LOW and it.code == -1, "fault",
-     "DEN0028: the function word is w0; the upper half of x0 is not looked at"),
+     "DEN0028: the function word is w0; the upper half of x0 is ignored"),
     (lambda it: it.word is not None and it.is_dirty, "fault",
-     "DEN0028: an argument of 32 bits is in w1 or w2; the upper half is not looked at"),
+     "DEN0028: an argument of 32 bits is in w1 or w2; the upper half is ignored"),
     (lambda it: it.want == "any" and it.of(SLEEPS), "fault",
      "CPU_SUSPEND, SYSTEM_SUSPEND: the core did not come back, though its timer was set"),
     (lambda it: it.want == "any" and it.of(fw.SYSTEM_RESET2) and it.regs[1] >> 31 & 1, "choice",
-     "SYSTEM_RESET2: a vendor's reset, which the profile has not"),
-    (lambda it: it.want == "any", "fault", "the system ended by a call that has to come back with a refusal"),
+     "SYSTEM_RESET2: a vendor's reset that the profile does not have"),
+    (lambda it: it.want == "any", "fault", "the system ended by a call that must be refused"),
     (lambda it: it.want == "absent", "fault", "CPU_ON: it was accepted, and the core did not enter"),
     (lambda it: it.of(fw.FEATURES) and it.asked in MANDATORY and it.code == -1, "fault",
-     "PSCI_FEATURES: a mandatory function is said to be absent"),
+     "PSCI_FEATURES: a mandatory function is reported absent"),
     (lambda it: it.of(fw.FEATURES), "choice",
-     "PSCI_FEATURES: it tells of a function otherwise than the profile: correct the profile, or the firmware"),
+     "PSCI_FEATURES: the answer contradicts the profile: correct the profile or the firmware"),
     (lambda it: it.of(fw.CPU_ON) and it.code == 0 and "-5" in it.ours, "fault",
      "CPU_ON: ON_PENDING while a CPU_ON is being processed; one caller's entry is lost"),
     (lambda it: it.of(fw.CPU_ON) and it.code in (0, -4, -5) and "-2" in it.ours, "fault",
      "CPU_ON: INVALID_PARAMETERS where the target is no core; unused fields are zero"),
     (lambda it: it.of(fw.CPU_ON) and it.pair(0, -4), "habit", "CPU_ON: the target counts as off inside its CPU_OFF"),
     (lambda it: it.of(fw.CPU_ON) and it.pair(-4, -5, 0), "habit",
-     "CPU_ON: the target counts as ON before it has entered; ON_PENDING is never told"),
+     "CPU_ON: the target counts as ON before it has entered; ON_PENDING is never reported"),
     (lambda it: it.of(fw.CPU_ON) and it.code == -2 and "-9" in it.ours, "habit",
      "CPU_ON: a bad entry point is INVALID_ADDRESS from version 1.0 on"),
     (lambda it: it.of(fw.CPU_ON) and it.pair(0, -9), "choice",
@@ -85,22 +85,22 @@ RULES = (
     (lambda it: it.of(fw.AFFINITY_INFO) and it.code in (0, 1, 2) and "-2" in it.ours, "fault",
      "AFFINITY_INFO: INVALID_PARAMETERS for what is no core or domain; unused fields are zero"),
     (lambda it: it.of(fw.AFFINITY_INFO) and it.code == 1 and it.ours <= {"0", "2"}, "fault",
-     "AFFINITY_INFO: OFF is told of a core that is ON, or whose CPU_ON was accepted"),
+     "AFFINITY_INFO: OFF is reported for a core that is ON, or whose CPU_ON was accepted"),
     (lambda it: it.of(fw.AFFINITY_INFO) and it.pair(0, 2), "habit",
-     "AFFINITY_INFO: ON at once after CPU_ON; ON_PENDING is never told"),
+     "AFFINITY_INFO: ON at once after CPU_ON; ON_PENDING is never reported"),
     (lambda it: it.of(fw.AFFINITY_INFO), "fault", "AFFINITY_INFO: no order of calls gives this answer"),
     (lambda it: it.of(fw.NODE_HW_STATE), "choice",
      "NODE_HW_STATE: the hardware's state, and the levels, are the platform's"),
     (lambda it: it.of(fw.CPU_SUSPEND) and it.code == 0 and it.ours <= {"-2"}, "fault",
-     "CPU_SUSPEND: INVALID_PARAMETERS for a power state that the platform has not"),
+     "CPU_SUSPEND: INVALID_PARAMETERS for a power state that the platform does not have"),
     (lambda it: it.of(fw.CPU_SUSPEND) and it.code == 0, "choice",
      "CPU_SUSPEND: it may come back at once; the profile says so by 'early yes'"),
     (lambda it: it.of(fw.CPU_SUSPEND), "choice", "CPU_SUSPEND: power states are the platform's, by its profile"),
     (lambda it: it.want == "resume", "choice", "CPU_SUSPEND: a power-down was made a standby; 'early yes' allows it"),
-    (lambda it: it.want == "enter", "fault", "a core enters otherwise than it was asked on, or was not asked on"),
+    (lambda it: it.want == "enter", "fault", "a core enters differently than CPU_ON asked, or without a CPU_ON"),
     (lambda it: it.of(fw.SYSTEM_SUSPEND) and it.pair(0, -3), "fault",
      "SYSTEM_SUSPEND: DENIED where another core is not off"),
-    (lambda it: it.word is not None and it.ours == {"-1"}, "choice", "a function that the profile has not"),
+    (lambda it: it.word is not None and it.ours == {"-1"}, "choice", "a function that the profile does not have"),
     (lambda it: True, "fault", "no order of calls gives this answer"),
 )
 

@@ -1,4 +1,4 @@
-"""The lines of a record of calls, and whether all of them are there: each once, by one clock (docs/JUDGE.md)."""
+"""The lines of a record of calls, and whether all of them are there: each once, by one clock (docs/compare/JUDGE.md)."""
 import re
 import zlib
 from collections import namedtuple
@@ -32,8 +32,8 @@ def lines_of(file):
             continue
         kind, *numbers = text[len(MARK):-len(END)].split(" ")
         line = Line(at, kind, [int(it, 16) for it in numbers if NUMBER.fullmatch(it)], text)
-        wants(len(line.numbers) == len(numbers), line, "a number is none")
-        wants(len(numbers) == FIELDS.get(kind), line, "no line of a record has this form")
+        wants(len(line.numbers) == len(numbers), line, "not a hexadecimal number")
+        wants(len(numbers) == FIELDS.get(kind), line, "not a line of a record")
         yield line
 
 
@@ -41,8 +41,8 @@ class Lines:
     """The lines of a life, one by one: each is looked at beside those before it."""
 
     def __init__(self, head):
-        wants(head.numbers[0] == FORM, head, f"the record has form {head.numbers[0]}, and this reads form {FORM}")
-        wants(head.numbers[5] == 0, head, "the core that booted is not core 0")
+        wants(head.numbers[0] == FORM, head, f"the record has form {head.numbers[0]}; this program reads form {FORM}")
+        wants(head.numbers[5] == 0, head, "the boot core is not core 0")
         self.head, self.cores = head.numbers, head.numbers[4]
         # of each core its lines by number; what has no number; how many lines there are, and the sum of their texts
         self.of_core, self.others, self.many, self.sum = {}, [], 0, 0
@@ -54,7 +54,7 @@ class Lines:
     def add(self, line):
         if line.kind == "told":
             wants(line.numbers[0] == self.many, line,
-                  f"{line.numbers[0]} lines of this life were written before it, and {self.many} stand here")
+                  f"{line.numbers[0]} lines of this life were written before it, but {self.many} are here")
             wants(line.numbers[1] == self.sum, line, "the lines of this life are not those that were written")
         else:
             self.look_at_cores(line)
@@ -65,7 +65,7 @@ class Lines:
         """An exception may be that of a core which the head does not know."""
         named = [line.numbers[0]] * (line.kind != "fault") + line.numbers[3:4] * (line.kind == "lacks")
         for core in named:
-            wants(core < self.cores, line, f"core {core} is none of the {self.cores} that the head names")
+            wants(core < self.cores, line, f"core {core} is not among the {self.cores} of the head")
 
     def numbered(self, line):
         """A call, or an entry, by its number: an open call gives way to what came of it."""
@@ -76,17 +76,17 @@ class Lines:
             mine[number] = line
             return
         wants({was.kind, line.kind} == {"open", "call"}, line,
-              f"core {core} has line {number} twice: it stands in line {was.at}, too")
+              f"core {core} has line {number} twice, first in line {was.at}")
         opened, back = (was, line) if was.kind == "open" else (line, was)
         wants(opened.numbers[3:] == back.numbers[5:9], line,
-              f"line {number} of core {core} is another call than line {was.at} says")
+              f"line {number} of core {core} is a different call in line {was.at}")
         mine[number] = back
 
     def ended(self):
         """The lines of each core in their order, once all are there."""
         for core, mine in self.of_core.items():
             for number, at in enumerate(sorted(mine)):
-                wants(number == at, mine[at], f"core {core} has no line {number}: it is lost")
+                wants(number == at, mine[at], f"core {core} has no line {number}: it is missing")
             self.of_core[core] = [mine[it] for it in sorted(mine)]
             self.look_at_calls(core)
             self.look_at_clock(core)
@@ -96,14 +96,14 @@ class Lines:
         """Behind a call from which it did not come back a core can only have entered."""
         for line, after in zip(self.of_core[core], self.of_core[core][1:]):
             wants(line.kind != "open" or after.kind == "enter", after,
-                  f"core {core} goes on, and its call of line {line.at} was not back: a line is lost")
+                  f"core {core} goes on, but its call in line {line.at} did not come back: a line is missing")
 
     def look_at_clock(self, core):
         last, was = -1, None
         for line in self.of_core[core]:
             begin, end = line.numbers[2:4] if line.kind == "call" else line.numbers[2:3] * 2
-            wants(begin <= end, line, f"it ends at {end}, before it begins at {begin}")
-            wants(last <= begin, line, f"it begins at {begin}, and line {was} of core {core} was at {last}")
+            wants(begin <= end, line, f"it ends at {end}, before it began at {begin}")
+            wants(last <= begin, line, f"it begins at {begin}, but line {was} of core {core} was at {last}")
             last, was = end, line.numbers[1]
 
 
@@ -121,8 +121,8 @@ def read(path):
             if line.kind == "head":
                 lives.append(Lines(line))
                 continue
-            wants(lives, line, "no line psci: head stands before the first other one")
+            wants(lives, line, "a line before the first psci: head")
             lives[-1].add(line)
     if not lives:
-        raise Unreadable("it has no line psci: head")
+        raise Unreadable("no line psci: head")
     return [it.ended() for it in lives]

@@ -1,4 +1,4 @@
-"""What a firmware declares of itself: the standard leaves these to it (docs/JUDGE.md)."""
+"""What a firmware declares of itself: the standard leaves these to it (docs/compare/JUDGE.md)."""
 import os
 
 import firmware as fw
@@ -75,11 +75,11 @@ def read(path):
             try:
                 setters[word](value.strip())
             except (KeyError, ValueError):
-                raise Wrong(f"{path}: line {number}: no line of a profile has this form") from None
+                raise Wrong(f"{path}: line {number}: not a line of a profile") from None
             except Fault as fault:
                 raise Wrong(f"{path}: line {number}: {str(fault).removeprefix('line 1: ')}") from None
     if profile.board is None:
-        raise Wrong(f"{path}: it has no line 'board'")
+        raise Wrong(f"{path}: missing line 'board'")
     return profile
 
 

@@ -127,7 +127,7 @@ def names_of(lost, first):
 def look_at_registers(life, operation, results, lost):
     regs = operation.regs
     if lost & KEPT:
-        life.remarks.append(Remark("fault", "registers that are to be kept", f"{operation.text}: {names_of(lost, 18)}"))
+        life.remarks.append(Remark("fault", "registers that a call must keep", f"{operation.text}: {names_of(lost, 18)}"))
     elif lost:
         life.remarks.append(Remark("note", EARLY_REGISTERS, operation.text))
     if results[1:] != regs[1:]:
@@ -158,7 +158,7 @@ def lacked(life, numbers, _is_last):
     core, _, at, target, times = numbers
     if life.last_entry.get(target, -1) > at:
         text = f"core {core} waits for entry {times} of core {target}"
-        life.remarks.append(Remark("note", "an entry came later than it was waited for", text))
+        life.remarks.append(Remark("note", "an entry came after the list stopped waiting", text))
         return []
     return [Operation(core, None, at, None, ("absent", target),
                       f"core {core} waits for entry {times} of core {target}")]

@@ -67,7 +67,7 @@ def read_baseline(path):
     with open(path, encoding="ascii") as file:
         rows = [line.rstrip("\n").split("\t") for line in file if line.strip() and not line.startswith("#")]
     if any(len(row) != len(Group._fields) for row in rows):
-        raise ValueError(f"{path}: no baseline has such a line")
+        raise ValueError(f"{path}: not a line of a baseline")
     return {Group(*row) for row in rows}
 
 

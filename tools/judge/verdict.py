@@ -34,8 +34,8 @@ def seen(remark, profile, version):
     the version that it tells."""
     if remark.what != EARLY_REGISTERS or not profile.keeps_early and version < KEEPS_EARLY:
         return remark
-    why = "which it says that it keeps" if profile.keeps_early else (
-        f"which a call keeps by version {version >> 16}.{version % 2**16} of the convention, as it says")
+    why = "which its profile says it keeps" if profile.keeps_early else (
+        f"which a call keeps in version {version >> 16}.{version % 2**16} of the convention, its own")
     return Remark("fault", f"x4 to x17 changed, {why}", remark.text)
 
 
@@ -47,7 +47,7 @@ def judged(name, lives, profile, bound=20000, limit=60.0, is_whole=False, has_la
     for life in lives:
         if life.head[4] > len(profile.board.cores):
             many = len(profile.board.cores)
-            raise Unreadable(f"its head has {life.head[4]} cores, and the board of the profile {many}")
+            raise Unreadable(f"its head has {life.head[4]} cores, but the board of the profile has {many}")
         verdict.remarks += [seen(it, profile, version) for it in life.remarks]
         verdict.remarks += never_entered(life, profile.board)
         if has_later or not verdict.differences:

@@ -17,8 +17,8 @@ from .kinds import Wrong
 from .sums import Unfinished
 
 SAME, COMMAND, READ, DIFFERS, LEFT = 0, 2, 4, 6, 7
-TEXT = """Makes runs from a range of seeds, on all processors of this machine, or on many machines.
-What is finished stays: the same words in the same folder go on where a sweep was ended.
+TEXT = """Runs a range of seeds, on all processors of this machine or on many machines.
+The same command continues an interrupted sweep: finished seeds are kept in its folder.
 
   ./psci sweep storm   --seeds 1..100000 --out out/night --boards tests/tally-floors.txt
   ./psci sweep threads --seeds 1..10000 --out out/threads --model
@@ -27,8 +27,8 @@ What is finished stays: the same words in the same folder go on where a sweep wa
   ./psci sweep storm   --seeds 1..100000 --out out/night --engine slurm --engine-words '--partition=all'
   ./psci sweep report out/night out/another
 """
-ENDING = """It ends with 0 where all seeds are done and none differs; with 6 where one differs; with 7 where some are left
-and none differs, or nothing happened in them. docs/SWEEP.md has more.
+ENDING = """Status 0: all seeds are done and none differs; 6: a seed differs; 7: seeds are left and none differs, or nothing
+happened in them. See docs/compare/SWEEP.md.
 """
 
 
@@ -37,13 +37,13 @@ def parsed(words):
     every = kinds.every()
     if words[:1] in ([], ["--help"], ["-h"]):
         parser = Words("sweep", TEXT, f"{' | '.join([*every, 'report'])} [OPTIONS]", ENDING)
-        parser.add_argument("kind", metavar="KIND", help="psci sweep KIND --help says what it takes")
+        parser.add_argument("kind", metavar="KIND", help="see psci sweep KIND --help")
         return parser.read(words)
     kind = one_of(*every, "report")
     try:
         kind(words[0])
     except argparse.ArgumentTypeError as why:
-        fault(["sweep", *words], 1, why, f"`psci sweep {' | '.join([*every, 'report'])}`; `psci sweep --help` says more")
+        fault(["sweep", *words], 1, why, f"`psci sweep {' | '.join([*every, 'report'])}`; see `psci sweep --help`")
     found = (of_report() if words[0] == "report" else of_kind(every[words[0]])).read(words[1:])
     found.kind = words[0]
     return found
@@ -51,10 +51,10 @@ def parsed(words):
 
 def of_report():
     """What the report takes."""
-    one = Words("sweep report", "Prints the report of what is done.", "[--costs] [--page FILE] FOLDER..", ENDING)
-    one.add_argument("folders", metavar="FOLDER", nargs="+", help="of sweeps of one kind, without a seed in common")
-    one.flag("--costs", help="say what it took, too")
-    one.add_argument("--page", metavar="FILE", help="write a page of it, to look at")
+    one = Words("sweep report", "Prints the report of finished seeds.", "[--costs] [--page FILE] FOLDER..", ENDING)
+    one.add_argument("folders", metavar="FOLDER", nargs="+", help="folders of sweeps of one kind, with no seed in common")
+    one.flag("--costs", help="print time and machines, too")
+    one.add_argument("--page", metavar="FILE", help="write the report as a page")
     return one
 
 
@@ -63,13 +63,13 @@ def of_kind(kind):
     one = Words(f"sweep {kind.NAME}", kind.__doc__, "--seeds FIRST..LAST --out FOLDER [OPTIONS]", ENDING,
                 may_repeat=True)
     add = one.add_argument
-    add("--seeds", metavar="FIRST..LAST", type=seeds, required=True, help="each of at most 18 digits")
-    add("--out", metavar="FOLDER", required=True, help="where results go, and where a sweep goes on")
-    add("--engine", metavar="NAME", type=one_of(*ENGINES), default="local", help="local (without it), slurm, parallel")
-    add("--engine-words", metavar="TEXT", default="", help="further words of sbatch or parallel")
+    add("--seeds", metavar="FIRST..LAST", type=seeds, required=True, help="the seeds, each of at most 18 digits")
+    add("--out", metavar="FOLDER", required=True, help="the folder of the sweep: results, and where it continues")
+    add("--engine", metavar="NAME", type=one_of(*ENGINES), default="local", help="local (the default), slurm or parallel")
+    add("--engine-words", metavar="TEXT", default="", help="further options of sbatch or parallel")
     add("--jobs", metavar="N", type=number(1, 10 ** 6), help="chunks at the same time")
-    add("--minutes", metavar="N", type=float, default=3, help="about how long a chunk takes, 3")
-    add("--chunk", metavar="N", type=number(1, 10 ** 18), help="seeds of a chunk, in place of a guess")
+    add("--minutes", metavar="N", type=float, default=3, help="about how long a chunk takes (3)")
+    add("--chunk", metavar="N", type=number(1, 10 ** 18), help="seeds of a chunk, instead of an estimate")
     kind.options(add)
     return one
 
@@ -86,7 +86,7 @@ def locked(folder):
     try:
         fcntl.flock(file, fcntl.LOCK_EX | fcntl.LOCK_NB)
     except BlockingIOError:
-        raise Wrong(f"{folder}: another sweep is at it") from None
+        raise Wrong(f"{folder}: another sweep uses it") from None
     return file
 
 
@@ -144,7 +144,7 @@ def swept(words):
     try:
         ENGINES[words.engine](plan, far, words.jobs, words.engine_words).run(left)
     except KeyboardInterrupt:
-        say("ended; the same words go on with it")
+        say("interrupted; the same command continues it")
     finally:
         far.end()
     try:
@@ -177,7 +177,7 @@ def told(every, has_costs, path=None):
             say(line)
     if found.left:
         say(f"{found.unfinished} chunks are not finished, seeds {report.ranges(found.left)}; "
-            f"{every[0].folder}/logs says why, and the same words go on")
+            f"see {every[0].folder}/logs; the same command continues it")
     status = DIFFERS if found.differences else LEFT if found.left else SAME
     return status or READ if path and not written(path, found) else status
 

@@ -115,7 +115,7 @@ def times(found):
 def next_steps(found):
     """The words that go on, and why chunks are not finished."""
     if found.left:
-        yield f"<h2>How to go on</h2><p>Seeds {report.ranges(found.left)} are left. The same words go on:</p>"
+        yield f"<h2>How to go on</h2><p>Seeds {report.ranges(found.left)} are left. The same command continues:</p>"
         yield "<pre>" + "\n".join(escape(words_of(plan)) for plan in found.plans if plans.left(plan)) + "</pre>"
         why = [(plan, *it) for plan in found.plans for it in plans.hindered(plan)]
         yield from (f"<p>Chunk {number} of {escape(plan.folder)} is not finished: {escape(said)}</p>"
@@ -127,7 +127,7 @@ def next_steps(found):
         yield "<p>All seeds are done. Further ones go into another folder, and one report has both:</p>"
         yield f"<pre>./psci sweep report {escape(shlex.join(it.folder for it in found.plans))} FOLDER</pre>"
     if found.differences:
-        yield "<p>A file <code>.txt</code> of what differs has the words that make that run again.</p>"
+        yield "<p>A file <code>.txt</code> of what differs has the command that repeats that run.</p>"
 
 
 def words_of(plan):

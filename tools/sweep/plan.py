@@ -73,7 +73,7 @@ def read(folder):
     """The plan in a folder."""
     text = whole.read_summed(f"{folder}/plan.json")
     if text.get("form") != FORM:
-        raise whole.Broken(f"{folder}/plan.json: its form is {text.get('form')}, and this reads form {FORM}")
+        raise whole.Broken(f"{folder}/plan.json has form {text.get('form')}; this program reads form {FORM}")
     return Plan(folder, text)
 
 
@@ -81,7 +81,7 @@ def look_at_files(plan):
     """Holds that chunks still have what the sweep began with."""
     for name, wanted in plan.text["files"].items():
         if sum_of(f"{plan.folder}/{name}") != wanted:
-            raise whole.Broken(f"{plan.folder}/{name}: it is not what the sweep began with")
+            raise whole.Broken(f"{plan.folder}/{name} has changed since the sweep began")
 
 
 def is_there(folder):

@@ -73,11 +73,11 @@ def misfit(every):
     one = every[0]
     for plan in every[1:]:
         if not plan.is_like(one):
-            return f"{plan.folder} makes something else of a seed than {one.folder}"
+            return f"{plan.folder} differs from {one.folder} in kind, settings or program"
     ordered = sorted(every, key=lambda it: it.first)
     for plan, other in zip(ordered, ordered[1:]):
         if other.first <= plan.last:
-            return f"{plan.folder} and {other.folder} have seed {other.first} in common"
+            return f"{plan.folder} and {other.folder} both have seed {other.first}"
     return None
 
 

@@ -52,5 +52,5 @@ def read_summed(path):
     with open(path, "rb") as file:
         text, end, rest = file.read().partition(b"\n")
     if rest != hashlib.sha256(text + end).hexdigest().encode() + b"\n":
-        raise Broken(f"{path}: it is not whole")
+        raise Broken(f"{path} is incomplete or corrupt")
     return json.loads(text)

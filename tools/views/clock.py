@@ -1,6 +1,6 @@
 """The clock of a run: when each event happened, in nanoseconds, an event a line.
 
-docs/FORMATS.md has the form. The script of the run stays as it is, and the clock lies beside it.
+docs/port/FORMATS.md has the form. The script of the run stays as it is, and the clock lies beside it.
 """
 import re
 
@@ -22,7 +22,7 @@ def times_of(lines, path):
     times = []
     for at, line in enumerate(lines, 1):
         if not re.fullmatch(r"(0|[1-9][0-9]{0,17})\n?", line):
-            raise BadClock(f"{path} line {at}: no number of nanoseconds")
+            raise BadClock(f"{path} line {at}: not a number of nanoseconds")
         if times and int(line) < times[-1]:
             raise BadClock(f"{path} line {at}: earlier than the line before")
         times.append(int(line))
@@ -40,5 +40,5 @@ class Clock:
         if self.times is None:
             return (number - 1) * self.step
         if number > len(self.times):
-            raise BadClock(f"the clock has {len(self.times)} lines, and there is an event {number}")
+            raise BadClock(f"the clock has {len(self.times)} lines, but the run has an event {number}")
         return self.times[number - 1]

@@ -15,7 +15,7 @@ def opened(words):
         sys.exit(0)
     highest = max(words.cores or [0])
     if highest >= run.board.cores:
-        raise Refused(f"there is no core {highest}: the board has {run.board.cores}")
+        raise Refused(f"no core {highest}: the board has {run.board.cores} cores")
     times = clock.read(words.clock) if words.clock else None
     return run, window.Window(run.board, words), clock.Clock(times)
 

@@ -1,9 +1,9 @@
-"""The faults of scripts and boards in words, which are those of docs/FORMATS.md."""
+"""The faults of scripts and boards in words, which are those of docs/port/FORMATS.md."""
 import os
 import re
 
 TOP = os.path.dirname(os.path.dirname(os.path.dirname(os.path.abspath(__file__))))
-# what the tables of faults in docs/FORMATS.md begin with
+# what the tables of faults in docs/port/FORMATS.md begin with
 TABLES = {"board": "| Number | Fault | Where |", "script": "| Number | Script fault | Where |",
           "machine": "| Number | Machine fault | Where |"}
 
@@ -13,7 +13,7 @@ SCRIPT_FAULT, NO_MEMORY = 3, 5
 
 def words_of(kind):
     """The faults of a table, by their numbers: the name, and where it comes."""
-    with open(f"{TOP}/docs/FORMATS.md", encoding="utf-8") as file:
+    with open(f"{TOP}/docs/port/FORMATS.md", encoding="utf-8") as file:
         rows = file.read().partition(TABLES[kind])[2].partition("\n\n")[0]
     found = re.findall(r"^\| (\d+) \| (\w+) \| (.*) \|$", rows, re.M)
     return {int(number): f"{name}: {where}" for number, name, where in found}
@@ -35,6 +35,6 @@ def fault_of(said, status, found):
         expected = f"; expected `{found[4]}`" if found[4] else ""
         return fault(f"{match[2]}, column {found[2] + 1}: {found[3]}{expected}", int(match[1]))
     if (status, said) == (NO_MEMORY, "out of memory\n"):
-        return fault("the run needs more memory than it may have here: it stops after the last event that fitted")
+        return fault("the run needs more memory than is allowed here: it stops after the last event that fitted")
     how = f"with status {status}" if status > 0 else f"by signal {-status}"
-    return fault(f"the program failed, and not the script: it ended {how}. The terminal of psci try has what it said")
+    return fault(f"the program failed, not the script: it ended {how}. See the terminal of psci try")

@@ -1,7 +1,7 @@
 """Rows in words: as `./psci show` writes them, for a window or for what changed alone.
 
 Without a window these lines are byte for byte those of the proved program, which a test holds them
-to. docs/FORMATS.md says what they mean.
+to. docs/port/FORMATS.md says what they mean.
 """
 from .shown import STATES
 

@@ -1,4 +1,4 @@
-"""The record of a port's run (docs/RECORD.md): its script, and what the port answered to each event."""
+"""The record of a port's run (docs/compare/RECORD.md): its script, and what the port answered to each event."""
 import re
 from collections import namedtuple
 from functools import cached_property
@@ -96,7 +96,7 @@ class Record:
             if line and line[0] != "#" and not self.read(at, line):
                 break
         if self.board is None:
-            raise Fault("line 1: the record names no board")
+            raise Fault("line 1: the record has no board")
         self.end_of_life()
 
     def read(self, at, line):
@@ -206,13 +206,13 @@ class Record:
         if word not in AFFINITY_INFO or int(x2, 16) % 2**32:
             raise Impossible("a poll is AFFINITY_INFO of a core, with level 0")
         if refused:
-            raise Impossible(f"it was {refused}: no firmware is polled")
+            raise Impossible(f"it was {refused}: there is no firmware to poll")
         target = self.core_of(int(x1, 16) % 2**(64 if word >> 30 & 1 else 32))
         if target is not None:
             text = f"poll {core} {x0} {x1} {x2}"
             self.polls.add(self.at, text, core, target, int(code))
         elif int(code) != INVALID_PARAMETERS:
-            raise Impossible(f"it was answered {code}; its target is no core, which is -2")
+            raise Impossible(f"it was answered {code}, but its target is no core: that is -2")
         return None, None
 
     def enter(self, core, life, start, cause, answer, frame):

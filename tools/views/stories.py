@@ -1,4 +1,4 @@
-"""The scripts that the page of `./psci try` offers: examples/, and the stories of docs/PEERS.md."""
+"""The scripts that the page of `./psci try` offers: examples/, and the stories of docs/compare/PEERS.md."""
 import glob
 import os
 import re
@@ -30,8 +30,8 @@ def script(path, title=None, story=""):
 
 
 def peers():
-    """The stories of docs/PEERS.md, each with its script."""
-    text = text_of(f"{TOP}/docs/PEERS.md")
+    """The stories of docs/compare/PEERS.md, each with its script."""
+    text = text_of(f"{TOP}/docs/compare/PEERS.md")
     chapters = re.findall(r"^### (\d+\. [^\n]*): `([a-z-]+)`\n\n(.*?)\n\n", text, re.M | re.S)
     return [script(f"{TOP}/examples/peers/{name}.psci", title, plain(story))
             for title, name, story in chapters]

@@ -8,7 +8,7 @@ LARGEST = 10 ** 9
 def number_from_one(text):
     """The number of an event."""
     if not re.fullmatch(r"[1-9][0-9]{0,8}", text):
-        raise argparse.ArgumentTypeError(f"'{text}', and the number of an event, 1 or more, was expected")
+        raise argparse.ArgumentTypeError(f"'{text}'; expected the number of an event, 1 or more")
     return int(text)
 
 
@@ -18,7 +18,7 @@ def core_list(text):
     for part in text.split(","):
         match = re.fullmatch(r"(\d{1,3})(?:-(\d{1,3}))?", part)
         if not match or int(match[2] or match[1]) < int(match[1]):
-            raise argparse.ArgumentTypeError(f"'{text}', and a list of cores, as 0-3,8, was expected")
+            raise argparse.ArgumentTypeError(f"'{text}'; expected a list of cores, as 0-3,8")
         cores |= set(range(int(match[1]), int(match[2] or match[1]) + 1))
     return frozenset(cores)
 
@@ -26,11 +26,11 @@ def core_list(text):
 def add_words(parser):
     """The options of a window."""
     parser.add_argument("--from", dest="first", type=number_from_one, default=1, metavar="N",
-                        help="begins with event N")
+                        help="begin with event N")
     parser.add_argument("--to", dest="last", type=number_from_one, default=LARGEST, metavar="N",
-                        help="ends with event N")
+                        help="end with event N")
     parser.add_argument("--cores", type=core_list, metavar="LIST",
-                        help="these cores, as 0-3,8, what is above them, and the events of these")
+                        help="only these cores, as 0-3,8, the domains above them, and their events")
 
 
 # the words of a window that leaves nothing out

@@ -53,7 +53,7 @@ const unsigned char *plat_get_power_domain_tree_desc(void) {
     return tree;
 }
 
-/* The original format with a nibble for each level, as docs/FORMATS.md has it. */
+/* The original format with a nibble for each level, as docs/port/FORMATS.md has it. */
 static int validate(unsigned int word, psci_power_state_t *asked) {
     unsigned int highest = 0, below = PLAT_MAX_OFF_STATE;
     for (unsigned int level = 0; level <= PLAT_MAX_PWR_LVL; level++) {

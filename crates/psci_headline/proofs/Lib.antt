@@ -57,7 +57,7 @@ pub mod ToldOff
 mod ToldOffRows
 pub mod Waiting
 pub mod Words
--- In the order of the argument of docs/SETTLING.md.
+-- In the order of the argument of docs/understand/SETTLING.md.
 
 -- What all steps use: the laws of the crates below, counting, slots, numbers of messages, folding.
 pub mod BoardLaws
@@ -104,7 +104,7 @@ mod SettledRows
 mod SettleRows
 mod WaitingRows
 -- What is told once both sides agree.
--- In the order of the argument of docs/SETTLING.md.
+-- In the order of the argument of docs/understand/SETTLING.md.
 pub mod Beside
 pub mod Answered
 pub mod Effects

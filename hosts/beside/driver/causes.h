@@ -163,7 +163,7 @@ static void compare_all(beside *b, const event *e, const event *plain, size_t od
     }
 }
 
-/* The one thing without which there is no difference; or else the one that they don't look at, and we do; or null. */
+/* The one thing without which there is no difference; or else the one that one side alone looks at; or null. */
 static const char *one_odd(beside *b, const event *e, bool is_unseen, struct cause *cause) {
     did ours, theirs;
     for (size_t at = 0; at < ODDS; at++) {
@@ -172,25 +172,44 @@ static const char *one_odd(beside *b, const event *e, bool is_unseen, struct cau
         if (!words || (!is_unseen && !agree_on(b, &less, false, &ours, &theirs)))
             continue;
         compare_all(b, e, &less, at, cause);
-        if (!is_unseen || (cause->their_same && !cause->our_same))
+        if (!is_unseen || cause->their_same != cause->our_same)
             return words;
     }
     cause->our_same = cause->their_same = false;
     return NULL;
 }
 
-/* Takes out of a call each odd thing that doesn't matter. */
-static void take_out(beside *b, event *e, struct cause *cause) {
+/* Whether a side does the same of two calls: the same answer, told the same states, or in both those that are asked for. */
+static bool does_the_same(const beside *b, const event *e, const did *one, const event *less, const did *other) {
+    bool is_as_deep = is_as_asked(b, e, one) && is_as_asked(b, less, other);
+    did asked = *other;
+    if (is_as_deep && one->what == PSCI_STOP)
+        memcpy(asked.depths, one->depths, sizeof asked.depths);
+    return is_equal(b, one, &asked);
+}
+
+/* Takes out of a call each odd thing without which the difference is the same one, by what both sides do. */
+static void take_out(beside *b, event *e, const struct cause *cause) {
     for (size_t at = 0; at < ODDS; at++) {
         event less = *e;
         did ours, theirs;
-        if (!odds[at].plain(b, less.x, odds[at].which) || agree_on(b, &less, false, &ours, &theirs) ||
-            !is_same(&ours, &b->difference.ours))
-            continue;
-        *e = less;
-        cause->ours = ours;
-        cause->theirs = theirs;
+        if (odds[at].plain(b, less.x, odds[at].which) && !agree_on(b, &less, false, &ours, &theirs) &&
+            does_the_same(b, e, &cause->ours, &less, &ours) && does_the_same(b, e, &cause->theirs, &less, &theirs))
+            *e = less;
     }
+}
+
+/* Whether what is odd about a call is its target. */
+static bool is_of_target(const char *odd) {
+    return !strncmp(odd, "no such Aff", 11) || !strcmp(odd, "Aff3 set") || !strncmp(odd, "a bit outside", 13);
+}
+
+/* A target may count otherwise, or not at all, for a peer that is asked about more than a core. */
+static void put_level(beside *b, const event *e, const char *odd) {
+    uint32_t level = e->x[2];
+    bool has_level = has_target(e->x[0]) && plain_word(e->x[0]) != CPU_ON;
+    if (has_level && is_of_target(odd) && level && level <= b->board.height)
+        put(b->difference.key, sizeof b->difference.key, " above the core");
 }
 
 static void put_all_odds(beside *b, const event *e, struct cause *cause) {
@@ -198,6 +217,8 @@ static void put_all_odds(beside *b, const event *e, struct cause *cause) {
     for (size_t at = 0; at < ODDS; at++) {
         event less = *e;
         const char *words = odds[at].plain(b, less.x, odds[at].which);
+        if (words && !cause->is_odd)
+            put_level(b, e, words);
         if (words)
             put(d->key, sizeof d->key, "%s %s", cause->is_odd ? "," : ":", words);
         cause->is_odd |= words != NULL;
@@ -236,6 +257,8 @@ static void put_odds(beside *b, event *e, struct cause *cause) {
     }
     if (one && strcmp(one, "an upper half of x0") == 0)
         *d->key = 0;
+    if (one)
+        put_level(b, e, one);
     if (one)
         put(d->key, sizeof d->key, "%s%s", *d->key ? ": " : "any function: ", one);
     else

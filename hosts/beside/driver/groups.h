@@ -36,10 +36,11 @@ static void put_function(beside *b, const event *e) {
     struct psci_beside_difference *d = &b->difference;
     uint32_t word = plain_word(e->x[0]);
     size_t size = sizeof d->key;
-    if (!has(b->profile, e->x[0]))
+    if (!has(b->profile, e->x[0])) {
         put(d->key, size, "a function that the profile lacks");
-    else
-        put_name(d->key, size, e->x[0]);
+        return;
+    }
+    put_name(d->key, size, e->x[0]);
     if (b->now.mode && (word == CPU_SUSPEND || word == CPU_OFF || word == SET_SUSPEND_MODE))
         put(d->key, size, " in OS-initiated mode");
 }

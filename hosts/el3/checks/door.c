@@ -18,8 +18,11 @@ struct psci_place firmware;
 struct psci_machine_place machine;
 uint32_t taken;
 void take_ack(void) {}
+void open_first_door(void) { abort(); }
+void board_comes_out(void) {}
+void board_waits(void) { wait_for_interrupt(); }
 void send(const struct psci_frame *message) { (void)message; }
-void serve_link(bool is_time) { (void)is_time; }
+void serve_link(void) {}
 void say(const char *form, ...) { (void)form; }
 void start_machine(void) { abort(); }
 void control_power(void) { abort(); }
@@ -63,6 +66,17 @@ void gic_ring(unsigned core) {
     told += shared.doors[CORE].woken != heard;
     heard = shared.doors[CORE].woken;
     step();
+}
+
+/* As link.c has it. */
+void tell_stop(unsigned core, uint64_t used) {
+    STORE(shared.doors[core].stopped, used);
+    gic_ring(SCP);
+}
+
+void tell_wake_up(unsigned core, uint64_t used) {
+    STORE(shared.doors[core].woken, used);
+    gic_ring(SCP);
 }
 
 bool gic_answer(void) {

@@ -23,8 +23,9 @@ void host_relax(void) {}
 uint64_t *host_place(void) { abort(); }
 uint64_t host_read(const char *name) { (void)name; abort(); }
 void gic_start(void) {}
+void board_begins(void) {}
 
-/* What link.c has. */
+/* What shared.c has. */
 struct psci_place firmware;
 struct psci_machine_place machine, own_machines[CORES];
 struct psci_poller pollers[CORES];

@@ -1,4 +1,4 @@
-"""Lists of events that are drawn blindly, for a peer beside the library in one process (docs/BESIDE.md)."""
+"""Lists of events that are drawn blindly, for a peer beside the library in one process (docs/compare/BESIDE.md)."""
 import os
 import re
 import shutil
@@ -31,7 +31,7 @@ class Beside:
     @staticmethod
     def options(add):
         add("--target", metavar="FILE", help="a target, built with LIB_FUZZING_ENGINE=none")
-        add("--count", metavar="N", type=int, default=1000, help="lists of a seed: 1000")
+        add("--count", metavar="N", type=int, default=1000, help="lists of each seed (1000)")
 
     @staticmethod
     def settings(words):

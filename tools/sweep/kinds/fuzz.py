@@ -1,4 +1,4 @@
-"""A fuzz target that libFuzzer leads by its branches: from each seed, over the same inputs (docs/BESIDE.md)."""
+"""A fuzz target that libFuzzer leads by its branches: from each seed, over the same inputs (docs/compare/BESIDE.md)."""
 import glob
 import os
 import re
@@ -36,23 +36,23 @@ class Fuzz(Beside):
     @staticmethod
     def options(add):
         add("--target", metavar="FILE", help="a target with libFuzzer, as hosts/beside/build makes it")
-        add("--count", metavar="N", type=int, default=100000, help="inputs of a seed: 100000")
-        add("--length", metavar="N", type=int, default=400, help="bytes of an input at most: 400")
+        add("--count", metavar="N", type=int, default=100000, help="inputs of each seed (100000)")
+        add("--length", metavar="N", type=int, default=400, help="most bytes of an input (400)")
         add("--corpus", metavar="FOLDER", action="append", default=[],
-            help="inputs that each seed begins with; may stand more than once")
+            help="inputs with which each seed begins; may be repeated")
 
     @staticmethod
     def settings(words):
         for folder in words.corpus:
             if not os.path.isdir(folder):
-                raise Wrong(f"--corpus {folder}: it is no folder")
+                raise Wrong(f"--corpus {folder}: not a folder")
         if words.length < 1:
             raise Wrong("--length takes a number above 0")
         if not has_target(words):
             raise Wrong("fuzz takes --target FILE; hosts/beside/build PEER makes one")
         settings = Beside.settings(words)
         if not is_led(words.target):
-            raise Wrong(f"--target {words.target}: it has no libFuzzer; ./psci sweep beside takes targets without")
+            raise Wrong(f"--target {words.target}: built without libFuzzer; use it with ./psci sweep beside")
         return {**settings, "length": words.length}
 
     @staticmethod

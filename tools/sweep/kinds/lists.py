@@ -36,18 +36,18 @@ class Lists:
     def options(add):
         add("--on", metavar="MACHINE", help="a machine of hosts/payload/run, as qemu")
         add("--command", metavar="TEXT", help="what boots the payload; IMAGE stands for its file")
-        add("--profile", metavar="FILE", help="what the firmware declares of itself (docs/JUDGE.md)")
-        add("--baseline", metavar="FILE", help="groups that are known, and no difference")
+        add("--profile", metavar="FILE", help="the profile of the firmware (docs/compare/JUDGE.md)")
+        add("--baseline", metavar="FILE", help="known groups, which are no difference")
         add("--down", action="store_true", help="lists with power-downs, too")
-        add("--one-thread", action="store_true", help="QEMU runs all cores in turn, and counts instructions for a clock")
-        add("--payload", metavar="FILE", default=f"{PAYLOAD}/out/payload.bin", help="what make -C hosts/payload built")
+        add("--one-thread", action="store_true", help="QEMU runs all cores in turn, with a clock that counts instructions")
+        add("--payload", metavar="FILE", default=f"{PAYLOAD}/out/payload.bin", help="the payload that make -C hosts/payload built")
 
     @staticmethod
     def settings(words):
         if (words.on is None) == (words.command is None):
             raise Wrong("lists take --on MACHINE or --command TEXT")
         if words.profile is None:
-            raise Wrong("lists take --profile FILE; docs/JUDGE.md says what stands there")
+            raise Wrong("lists take --profile FILE (docs/compare/JUDGE.md)")
         groups, profile, _, report, _, _ = judge()
         try:
             profile.read(words.profile)
@@ -62,7 +62,7 @@ class Lists:
     @staticmethod
     def gather(words, folder):
         if not os.path.isfile(words.payload):
-            raise Wrong(f"there is no {words.payload}; make -C hosts/payload builds it")
+            raise Wrong(f"no {words.payload}; make -C hosts/payload builds it")
         shutil.copy(words.payload, f"{folder}/payload.bin")
         return ["payload.bin"]
 

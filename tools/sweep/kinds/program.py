@@ -21,10 +21,10 @@ SENT = (1, 2, 9, 15, 24)
 def options(add, count):
     """The words of a kind that runs the program on boards."""
     add("--count", metavar="N", type=int, default=count, help=f"events, or calls of each core: {count}")
-    add("--board", metavar="TEXT", action="append", default=[], help="a board; may stand more than once")
-    add("--boards", metavar="FILE", help="boards, with lines 'board NAME TEXT'")
-    add("--model", action="store_true", help="hold each run to the second model, answer by answer")
-    add("--program", metavar="FILE", help="a program in place of ours")
+    add("--board", metavar="TEXT", action="append", default=[], help="a board; may be repeated")
+    add("--boards", metavar="FILE", help="a file of boards, with lines 'board NAME TEXT'")
+    add("--model", action="store_true", help="compare each answer with the second model")
+    add("--program", metavar="FILE", help="another program than ours")
 
 
 def boards_of(words):
@@ -35,7 +35,7 @@ def boards_of(words):
             rows = [line.split(None, 2)[1:] for line in file if line.startswith("board ")]
         found.update({name: text.strip() for name, text in rows})
         if not rows or any(not re.fullmatch(r"[\w-]+", name) for name, _ in rows):
-            raise Wrong(f"{words.boards}: it has no lines 'board NAME TEXT'")
+            raise Wrong(f"{words.boards}: no lines 'board NAME TEXT'")
     return found or {"default": BOARD}
 
 
@@ -46,7 +46,7 @@ def settings(words):
         raise Wrong(f"--count takes 0 to {MOST_EVENTS}")
     long = [name for name, text in boards.items() if len(text.encode()) > MOST_OF_BOARD]
     if words.model and long:
-        raise Wrong(f"--model needs boards of at most {MOST_OF_BOARD} bytes, and {long[0]} is longer")
+        raise Wrong(f"--model needs boards of at most {MOST_OF_BOARD} bytes: {long[0]} is longer")
     return {"count": words.count, "boards": [list(it) for it in boards.items()], "model": words.model}
 
 
@@ -97,7 +97,7 @@ class Program:
         pairs = [(words_of(a), words_of(b)) for a, b in zip(ours, theirs) if a != b]
         if not pairs and len(ours) == len(theirs):
             return None
-        return "the second model answers otherwise: " + (
+        return "the second model answers differently: " + (
             f"ours {pairs[0][0]}, theirs {pairs[0][1]}" if pairs else "one of them has more lines")
 
 

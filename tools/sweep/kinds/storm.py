@@ -1,4 +1,4 @@
-"""Storms: random events on each board, from each seed (docs/FORMATS.md, the lines of a storm)."""
+"""Storms: random events on each board, from each seed (docs/port/FORMATS.md, the lines of a storm)."""
 import os
 import re
 

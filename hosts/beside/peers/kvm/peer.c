@@ -8,6 +8,7 @@ static struct kvm machine;
 
 static void kvm_open(void *self, const struct psci_beside_board *board) {
     statics_fresh();
+    statics_hold(board->cores, MOST);
     machine.many = board->cores;
     for (int i = 0; i < machine.many; i++) {
         struct kvm_vcpu *v = &machine.vcpus[i];

@@ -50,7 +50,7 @@ struct kvm_vcpu {
         int target;
     } arch;
 };
-enum { MOST = 64 };
+enum { MOST = 8 };
 /* of newer ones: a table of processors, which is not made yet */
 struct kvm_mpidr_data { u16 cmpidr_to_idx[MOST]; };
 #define rcu_dereference(p) (p)

@@ -48,6 +48,7 @@ void helper_wfi(CPUARMState *env, uint32_t length) {
 
 static void qemu_open(void *self, const struct psci_beside_board *board) {
     statics_fresh();
+    statics_hold(board->cores, MOST);
     many_cpus = board->cores;
     for (uint32_t i = 0; i < many_cpus; i++) {
         cpus[i].mp_affinity = board->affinity[i];

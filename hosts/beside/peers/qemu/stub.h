@@ -5,7 +5,7 @@
 #include <stdio.h>
 #include <string.h>
 
-enum { MOST = 64, MOST_WORK = 8 };
+enum { MOST = 8, MOST_WORK = 8 };
 typedef uint64_t target_ulong;
 typedef struct CPUState { int halted, exception_index; } CPUState;
 typedef struct CPUARMState {

@@ -1,4 +1,4 @@
-/* What TF-A does within a call, and of a core that is reset by itself: stories 1, 3, 4 and 9 of docs/PEERS.md, which
+/* What TF-A does within a call, and of a core that is reset by itself: stories 1, 3, 4 and 9 of docs/compare/PEERS.md, which
  * no list of calls shows. Each is played on TF-A's own code; a line says what was seen, and the status is 1 where
  * something was not. */
 #define psci_power_down_wfi stops

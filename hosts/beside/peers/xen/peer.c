@@ -4,7 +4,7 @@
 #include "fuzz.h"
 #include "statics.h"
 
-enum { MOST = 64 };
+enum { MOST = 8 };
 static struct vcpu vcpus[MOST], *rows[MOST];
 static struct domain domain = {.vcpu = rows};
 struct vcpu *current;
@@ -18,6 +18,7 @@ int arch_set_info_guest(struct vcpu *v, struct vcpu_guest_context *context) {
 
 static void xen_open(void *self, const struct psci_beside_board *board) {
     statics_fresh();
+    statics_hold(board->cores, MOST);
     domain.max_vcpus = board->cores;
     for (unsigned i = 0; i < board->cores; i++) {
         vcpus[i] = (struct vcpu){&domain, i, i ? 1ul << _VPF_down : 0};

@@ -1,0 +1,12 @@
+/* The ways of a board whose cores keep their power, and wait at their doors until they are rung. */
+#include "hooks.h"
+#include "gic.h"
+#include "machine.h"
+
+#define OR_THE_BOARD __attribute__((weak))
+
+OR_THE_BOARD void board_comes_out(void) {}
+OR_THE_BOARD void board_begins(void) {}
+OR_THE_BOARD void board_resets(unsigned core) { (void)core; }
+OR_THE_BOARD void board_starts(unsigned core, bool was_reset) { (void)was_reset, gic_ring(core); }
+OR_THE_BOARD void board_waits(void) { wait_for_interrupt(); }
