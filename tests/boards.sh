@@ -84,6 +84,21 @@ on_board() {
     live "$1-cut" --board "$1" --reset-at "guest: core 2 off" each
     [ "$1" != sbsa-ref ] || live sbsa-sixteen --board sbsa-ref --cores "((4 4) (4 4))" each boot-core idle
     lists_on_board "$1"
+    board_faults "$1"
+}
+
+# the faults of a board's own, of which Linux tells in one life or the next
+board_faults() {
+    local name check machine text
+    while IFS='|' read -r name check machine text; do
+        [ "$check $machine" = "board $1" ] || continue
+        say "Linux at EL3: the board $1, the fault $name"
+        EL3_OUT=$work/el3-fault hosts/el3/run --board "$1" --seconds $((60 + 3 * took)) --lives 2 --fault "$name" each reboot > "$work/out" 2>&1
+        if grep -q -- "$text" "$work/out"; then pass; else
+            fail "hosts/el3/run --board $1 --fault $name does not say '$text'"
+            tail -n 5 "$work/out"
+        fi
+    done < tests/port-faults.txt
 }
 
 # lists_on_board NAME [LIST..]: what the payload is answered there, which is to be as the judge has it

@@ -100,7 +100,7 @@ port_faults() {
         if [ -f "hosts/el3/faults/$name.patch" ] && grep -qF "\`$name\`" hosts/el3/README.md; then pass; else
             fail "tests/port-faults.txt: $name is no fault, or hosts/el3/README.md does not have it"
         fi
-        [[ $check != lists && $check != linux && $check != nobody && $check != right ]] || continue
+        [[ $check != lists && $check != linux && $check != board && $check != nobody && $check != right ]] || continue
         export FAULT=$name
         if seen_by "$check" "$machine"; then fail "$name is not seen by $check"
         elif grep -q -- "$text" "$work/out"; then pass; else
