@@ -252,6 +252,16 @@ judged_virtio() {
             -device virtconsole,chardev=it -kernel IMAGE"
         judged_as 0 "agrees    virtio-$form/lives: 1" --profile "$1" "$work/virtio-$form/lives.record"
     done
+    # what the payload does not know it says, where it has a console
+    $machine -M "virt,dumpdtb=$work/virt.dtb" > /dev/null 2>&1
+    dtc -q -I dtb -O dts "$work/virt.dtb" | sed 's/arm,cortex-a15-gic/nobody,gic/' | dtc -q -I dts -O dtb -o "$work/virt.dtb"
+    "$payload/run" --payload "$work/payload/payload.bin" --seconds 5 --out "$work/unknown" lives \
+        --command "$machine -M virt -dtb $work/virt.dtb -serial stdio -kernel IMAGE" > "$work/out" 2>&1
+    if grep -q "^lives: 0 lines, the device tree has no interrupt controller that the payload knows, it did" "$work/out"
+    then pass; else
+        fail "$payload/run on an interrupt controller that the payload does not know"
+        tail -n 3 "$work/out"
+    fi
 }
 
 # played WORD..: a run of the payload, which ends by itself long before the limit

@@ -219,7 +219,11 @@ void booted(const void *tree) {
     if ((uintptr_t)tree < 4096 || (uintptr_t)tree & 7 ||
         *(const uint32_t *)tree != __builtin_bswap32(0xd00dfeed))
         tree = (const void *)((uintptr_t)head & ~0x3ffffffful);
-    if (!read_tree(tree)) return;
+    if (!read_tree(tree)) { /* which of these the tree does not have, where there is a console to say so */
+        if (machine.uart || machine.virtio)
+            LINE("without", !machine.cores, !machine.gic, !machine.timer);
+        return;
+    }
     int is_of_list = begin_life();
     boot_level = entry_state().level;
     LINE("head", 1, (uintptr_t)head, (uintptr_t)entries, machine.is_smc, machine.cores, 0);
