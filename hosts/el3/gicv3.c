@@ -40,17 +40,30 @@ static void forget(uintptr_t frame, unsigned at, uint32_t which) {
     mmio32(frame + 0x380 + 4 * at) = which; /* ICACTIVER */
 }
 
-void gic_forget(void) { forget(own_frame() + 0x10000, 0, NORMAL_WORLD); }
+/* What was written of groups and enables is so everywhere: RWP, of the distributor or of a redistributor. */
+static void settle(uintptr_t control, unsigned rwp) {
+    while (mmio32(control) >> rwp & 1) {
+    }
+}
+
+void gic_forget(void) {
+    uintptr_t mine = own_frame();
+    forget(mine + 0x10000, 0, NORMAL_WORLD);
+    settle(mine, 3);
+}
 
 void gic_start(void) {
     mmio32(GICD) = 0x30; /* affinity routing in both worlds */
+    settle(GICD, 31);
     for (unsigned at = 1; at < 32; at++) {
         forget(GICD, at, ~0u);
         mmio32(GICD + 0x80 + 4 * at) = ~0u; /* IGROUPR: shared interrupts are the normal world's */
         mmio32(GICD + 0xd00 + 4 * at) = 0;  /* IGRPMODR */
     }
+    settle(GICD, 31);
     __asm__ volatile("dsb sy" ::: "memory");
     mmio32(GICD) = 0x37;
+    settle(GICD, 31);
 }
 
 /* The bit of group 0, which the normal world can't write. */
