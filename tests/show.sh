@@ -170,20 +170,27 @@ for line in list(sys.stdin)[1:]:
     done
 }
 
-# the pictures of docs/runs/, made again
+# the pictures of docs/runs/, made again; there are no others; all can be read in a dark scheme, too
 drawn() {
-    local file name
+    local name script words
     has_python drawn || return
-    for file in docs/runs/*.svg; do
-        name=$(basename "$file" .svg)
-        show --json < "examples/$name.psci"
-        tools/draw < "$work/out" > "$work/drawn" 2> "$work/err"
+    while read -r name script words; do
+        show --json < "$script.psci"
+        # shellcheck disable=SC2086
+        tools/draw $words < "$work/out" > "$work/drawn" 2> "$work/err"
         echo $? > "$work/got"
-        cp "$file" "$work/lines"
+        cp "docs/runs/$name.svg" "$work/lines"
         cp "$work/drawn" "$work/out"
         expect "draw $name" 0
         answers "draw $name"
-    done
+    done < docs/runs/pictures.txt
+    basename -s .svg docs/runs/*.svg | sort > "$work/out"
+    cut -d ' ' -f 1 docs/runs/pictures.txt | sort > "$work/lines"
+    answers "the pictures of docs/runs"
+    if tests/schemes docs/runs/*.svg > "$work/out" 2>&1; then pass; else
+        fail tests/schemes
+        head -n 20 "$work/out"
+    fi
 }
 
 # the long options that the help of each command names
