@@ -193,6 +193,37 @@ drawn() {
     fi
 }
 
+# the pictures of the crates and of a port's steps are what is drawn of crates.txt and steps.txt; a crate or step that is
+# not in them, an order of steps that no port may take, and an act or a function that is nowhere are found
+diagrams() {
+    has_python tools/diagrams || return
+    if tools/diagrams --check > "$work/out" 2>&1 && tests/schemes docs/*/*.svg >> "$work/out" 2>&1; then pass; else
+        fail tools/diagrams
+        head -n 20 "$work/out"
+    fi
+    local path edit wanted fresh=$work/diagrams
+    while IFS='|' read -r path edit wanted; do
+        rm -rf "$fresh"
+        mkdir -p "$fresh/crates/psci_port"
+        cp -r tools docs include crates.txt "$fresh"
+        cp -r crates/psci_port/specs "$fresh/crates/psci_port"
+        sed -i "$edit" "$fresh/$path"
+        "$fresh/tools/diagrams" --check > "$work/out" 2>&1
+        if cmp -s "$path" "$fresh/$path" || ! grep -qF -- "$wanted" "$work/out"; then
+            fail "tools/diagrams lets this through: $path, $edit"
+        else pass; fi
+    done << 'END'
+docs/maintain/crates.svg|s/psci_osi/psci_oso/|crates.svg is not what tools/diagrams draws
+crates.txt|/^psci_storm/s/ psci_world / /|crates.svg is not what tools/diagrams draws
+docs/port/steps.svg|s/cleans its caches/keeps its caches/|steps.svg is not what tools/diagrams draws
+docs/port/steps.txt|s/cleans its caches/keeps its caches/|steps.svg is not what tools/diagrams draws
+docs/port/steps.txt|/^Stands/{h;d};/^Delivers/{G}|Delivers (psci_ctl_deliver, once it stands) comes before it may: standing
+docs/port/steps.txt|/^Unlocks/d|Stands (says that it stands, last of all) comes before it may: free
+docs/port/steps.txt|s/psci_smc/psci_call/|no header has psci_call
+crates/psci_port/specs/Port.antt|s/^  Opens :/  Opened :/|there is no act Opens
+END
+}
+
 # the long options that the help of each command names
 options() {
     local name
