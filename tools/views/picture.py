@@ -21,7 +21,7 @@ STATES = {"running": "runs", "started": "started", "pending": "is to start",
 RED, BLUE, GREEN, GRAY = "#a31515", "#1f4e9c", "#2e7d32", "#888888"
 PAPER, INK, FAINT, LIGHT = "#fefefe", "#222222", "#333333", "#ffffff"
 LEGEND = ("The darker, the deeper a domain sleeps; green: the core runs. "
-          "Dashed: lost. Red: stale, old or refused.")
+          "Dashed: has not come. Red: stale, old or refused.")
 
 
 # each of these colors where the viewer's scheme is dark; here, too, the darker is the deeper
@@ -222,7 +222,7 @@ class Drawing:
                           RED if stale else BLUE)
         if not comings:
             picture.arrow(x, self.firmware, x + 36, self.firmware + 60, GRAY, True)
-            picture.text(x + 44, self.firmware + 64, "never comes")
+            picture.text(x + 44, self.firmware + 64, "comes later, or never" if self.window.goes_on else "never comes")
 
     def acknowledged(self, x, ack, comings):
         picture, parts = self.picture, self.parts.get(ack["message"])
