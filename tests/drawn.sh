@@ -24,8 +24,9 @@ drawn() {
     fi
 }
 
-# the pictures of the crates and of a port's steps are what is drawn of crates.txt and steps.txt; a crate or step that is
-# not in them, an order of steps that no port may take, and an act or a function that is nowhere are found
+# the pictures of the crates and of a port's steps are what is drawn of crates.txt and steps.txt. A crate or step that is
+# not in them is found, an order of steps that no port may take, an act or a function that is nowhere, a rule that has
+# changed
 diagrams() {
     has_python tools/diagrams || return
     if tools/diagrams --check > "$work/out" 2>&1 && tests/schemes docs/*/*.svg >> "$work/out" 2>&1; then pass; else
@@ -51,6 +52,8 @@ docs/port/steps.txt|s/cleans its caches/keeps its caches/|steps.svg is not what 
 docs/port/steps.txt|/^Stands/{h;d};/^Delivers/{G}|Delivers (psci_ctl_deliver, once it stands) comes before it may: standing
 docs/port/steps.txt|/^Unlocks/d|Stands (says that it stands, last of all) comes before it may: free
 docs/port/steps.txt|s/psci_smc/psci_call/|no header has psci_call
-crates/psci_port/specs/Port.antt|s/^  Opens :/  Opened :/|there is no act Opens
+docs/port/steps.txt|s/^Writes Opens/Opens Writes/|Opens (its start, then its door) comes before it may: written
+crates/psci_port/specs/Rules.antt|s/^May b p (Opens c)/May b p (Opened c)/|there is no act Opens
+crates/psci_port/specs/Rules.antt|s/≡ Leaving) × LacksLock p c/≡ Leaving)/|the rules say of Stands: (stage_at p c ≡ Leaving)
 END
 }

@@ -5,24 +5,31 @@ from collections import namedtuple
 from views.picture import BLUE, CORES, FAINT, FILLS, GRAY, LEFT, Picture
 
 Step = namedtuple("Step", "acts who whom words")
-LANES = {"core": "core", "firmware": "firmware, under the lock", "mailbox": "mailbox", "controller": "power controller"}
+LANES = {"core": "core", "firmware": "firmware, under the lock", "mailbox": "mailbox",
+         "controller": "power controller"}
 LANE, HIGH, HEAD = 180, 27, 46
-# What each act waits for, what it uses up, and what is so behind it: Rules.antt, for a core that stops and comes back.
-# Another core takes the acknowledgement.
+# What Rules.antt says that an act waits for, and this for a core that stops and comes back: what has to be so, what is so
+# no more behind it, and what is so then. Another core takes the acknowledgement.
+Rule = namedtuple("Rule", "said wanted used left")
 RULES = {
-    "Locks": ("free", "free", "locked"),
-    "Unlocks": ("locked idle", "locked", "free"),
-    "Calls": ("locked idle normal", "idle normal", "begun leaving"),
-    "Enters": ("locked idle entering", "idle entering", "begun normal"),
-    "Takes": ("locked idle answered", "idle answered", "begun"),
-    "Finishes": ("begun", "begun", "idle sent"),
-    "Stands": ("leaving free", "leaving", "standing"),
-    "Delivers": ("sent standing", "sent", "down answered"),
-    "Cuts": ("down", "", ""),
-    "Wakes": ("standing free", "down", "started"),
-    "Writes": ("started", "started", "written"),
-    "Opens": ("written", "written", "opened"),
-    "TakesUp": ("opened standing", "opened standing", "entering"),
+    "Locks": Rule("(c < cores b) × (p.lock ≡ None) × (may_hold (stage_at p c) ≡ true)", "free", "free", "locked"),
+    "Unlocks": Rule("HasLock p c", "locked idle", "locked", "free"),
+    "Calls": Rule("(c < cores b) × HasLock p c × (stage_at p c ≡ Normal)",
+                  "locked idle normal", "idle normal", "begun leaving"),
+    "Enters": Rule("(c < cores b) × HasLock p c × ((s : Start) × (stage_at p c ≡ Entering s))",
+                   "locked idle entering", "idle entering", "begun normal"),
+    "Takes": Rule("HasLock p c", "locked idle answered", "idle answered", "begun"),
+    "Finishes": Rule("(r : Record) × ((p.row c).begun ≡ Some r)", "begun", "begun", "idle sent"),
+    "Stands": Rule("(stage_at p c ≡ Leaving) × LacksLock p c", "leaving free", "leaving", "standing"),
+    "Delivers": Rule("IsSendable b m × (waits b p.values (words p) (asked.Deliver m) ≡ false) × "
+                     "(m.kind ≡ kinds.Start → LacksLock p m.core.number)", "sent standing", "sent", "down answered"),
+    "Cuts": Rule("(0 < p.values.depth level place) × NoneArmed b p level place", "down", "", ""),
+    "Wakes": Rule("(c < cores b) × (stands p.values (words p) c ≡ true) × LacksLock p c",
+                  "standing free", "down", "started"),
+    "Writes": Rule("((p.row c).opened == p.values.starts c) ≡ false", "started", "started", "written"),
+    "Opens": Rule("(p.row c).door ≡ last_start p.values c", "written", "written", "opened"),
+    "TakesUp": Rule("(looks (stage_at p c) ≡ true) × ((p.row c).held ≡ false) × "
+                    "(((p.row c).opened == (p.row c).used) ≡ false)", "opened standing", "opened standing", "entering"),
 }
 FIRST = {"free", "idle", "normal"}
 
@@ -40,17 +47,27 @@ def read(text):
     return phases
 
 
-def told(phases, acts, headers):
-    """What is wrong with the steps, by the text that defines the acts and those that declare the functions."""
-    known, so = set(re.findall(r"^  (\w+) : .*Act$", acts, re.M)), set(FIRST)
+def clauses(rules):
+    """What each act waits for, by the text of the rules."""
+    found = re.findall(r"^May b p \(?(\w+)[^=]*? =\s*(.*?)(?=^May|^--|^\s*$)", rules, re.M | re.S)
+    return {act: " ".join(said.split()) for act, said in found}
+
+
+def told(phases, rules, headers):
+    """What is wrong with the steps, by the texts of the rules and of what declares the functions."""
+    known, so = clauses(rules), set(FIRST)
     for step in (it for _, steps in phases for it in steps):
-        yield from (f"there is no act {it}" for it in step.acts if it not in known)
+        for act in step.acts:
+            if act not in known or act not in RULES:
+                yield f"there is no act {act}"
+            elif known[act] != RULES[act].said:
+                yield f"the rules say of {act}: {known[act]}"
         yield from (f"there is no lane {it}" for it in (step.who, step.whom) if it not in (*LANES, None))
         for name in re.findall(r"\b(?:psci_|PSCI_)\w+", step.words):
             if not re.search(rf"\b{name}\b", headers):
                 yield f"no header has {name}"
-        for act in (it for it in step.acts if it in known):
-            wanted, used, left = (set(it.split()) for it in RULES[act])
+        for act in (it for it in step.acts if it in RULES):
+            wanted, used, left = (set(it.split()) for it in RULES[act][1:])
             if wanted - so:
                 yield f"{act} ({step.words}) comes before it may: {', '.join(sorted(wanted - so))}"
             so = so - used | left
