@@ -24,9 +24,9 @@ drawn() {
     fi
 }
 
-# the pictures of the crates and of a port's steps are what is drawn of crates.txt and steps.txt. A crate or step that is
-# not in them is found, an order of steps that no port may take, an act or a function that is nowhere, a rule that has
-# changed
+# the pictures of the crates and of a port's steps are what is drawn of crates.txt and steps.txt. A crate or step that
+# is not in them is found, an order of steps that no port may take, an act or a function that is nowhere, a rule that
+# has changed
 diagrams() {
     has_python tools/diagrams || return
     if tools/diagrams --check > "$work/out" 2>&1 && tests/schemes docs/*/*.svg >> "$work/out" 2>&1; then pass; else

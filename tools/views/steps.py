@@ -8,8 +8,8 @@ Step = namedtuple("Step", "acts who whom words")
 LANES = {"core": "core", "firmware": "firmware, under the lock", "mailbox": "mailbox",
          "controller": "power controller"}
 LANE, HIGH, HEAD = 180, 27, 46
-# What Rules.antt says that an act waits for, and this for a core that stops and comes back: what has to be so, what is so
-# no more behind it, and what is so then. Another core takes the acknowledgement.
+# What Rules.antt says that an act waits for, and this for a core that stops and comes back: what has to be so, what is
+# so no more behind it, and what is so then. Another core takes the acknowledgement.
 Rule = namedtuple("Rule", "said wanted used left")
 RULES = {
     "Locks": Rule("(c < cores b) × (p.lock ≡ None) × (may_hold (stage_at p c) ≡ true)", "free", "free", "locked"),
