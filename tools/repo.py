@@ -108,8 +108,22 @@ class Crates:
 
 # ---- edits
 
+def cases(path):
+    """The texts of the cases in a file of them, by their names: each stands behind a line '== NAME'."""
+    parts = re.split(r"^== (\S+)\n", text_of(path), flags=re.M)
+    names = parts[1::2]
+    if parts[0].strip() or len(set(names)) != len(names):
+        raise BadEdit(f"{path} has a text without a name, or a name twice")
+    return dict(zip(names, parts[2::2]))
+
+
 def read_edit(path):
-    """Reads a file of edits. Its lines begin with a word:
+    """Reads a file of edits, as parse_edit says."""
+    return parse_edit(text_of(path))
+
+
+def parse_edit(text):
+    """Reads the text of edits. Its lines begin with a word:
 
         file: PATH     a file, in the crate or in the repository, which the changes after it are of
         old: TEXT      what stands in it once
@@ -119,24 +133,24 @@ def read_edit(path):
     Lines of other words, as 'run: ..', are kept by their words, and lines without one are comments.
     """
     changes, words, file, old = [], {}, None, None
-    for line in text_of(path).splitlines():
+    for line in text.splitlines():
         match = re.match(r"(\w+):(?: (.*))?$", line)
-        word, text = (match[1], match[2] or "") if match else ("", "")
+        word, said = (match[1], match[2] or "") if match else ("", "")
         if word == "file":
-            file, old = text.strip(), None
+            file, old = said.strip(), None
         elif word == "old":
-            old = text
+            old = said
         elif word == "new":
             if not file or not old:
                 raise BadEdit("a line 'new:' stands behind no line 'file:' and 'old:'")
-            changes.append(Change(file, old, text))
+            changes.append(Change(file, old, said))
             old = None
         elif word == "more":
             if not changes or changes[-1].path != file or old is not None:
                 raise BadEdit("a line 'more:' stands behind no line 'new:'")
-            changes[-1] = changes[-1]._replace(new=f"{changes[-1].new}\n{text}")
+            changes[-1] = changes[-1]._replace(new=f"{changes[-1].new}\n{said}")
         elif word:
-            words.setdefault(word, []).append(text)
+            words.setdefault(word, []).append(said)
     if not changes:
         raise BadEdit("it changes nothing")
     return Edit(changes, words)
