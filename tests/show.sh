@@ -1,5 +1,5 @@
-# Tests of `psci show`, `psci draw`, the completion and the manual page, sourced by ../test: runs in
-# words and pictures, text for text, and as JSON.
+# Tests of `psci show`, the completion and the manual page, sourced by ../test: runs in
+# words, text for text, and as JSON.
 
 # show WORD..: shows the script on standard input
 show() { run show "$@"; }
@@ -167,22 +167,6 @@ for line in list(sys.stdin)[1:]:
         cp "${file%.psci}.out" "$work/out"
         expect "show --json < $file" 0
         answers "show --json < $file"
-    done
-}
-
-# the pictures of docs/runs/, made again
-drawn() {
-    local file name
-    has_python drawn || return
-    for file in docs/runs/*.svg; do
-        name=$(basename "$file" .svg)
-        show --json < "examples/$name.psci"
-        tools/draw < "$work/out" > "$work/drawn" 2> "$work/err"
-        echo $? > "$work/got"
-        cp "$file" "$work/lines"
-        cp "$work/drawn" "$work/out"
-        expect "draw $name" 0
-        answers "draw $name"
     done
 }
 

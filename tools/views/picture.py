@@ -4,7 +4,7 @@ Each core and each power domain has a band, below the domain that it is part of;
 depth as the power controller has it, the darker the deeper, and a core that runs is green. What a
 core does stands in its band. Below, each message goes from the line of the firmware to that of the
 power controller, and its acknowledgement back: one that is lost ends open, a stale or old one is
-red.
+red. A viewer whose scheme is dark shows it in the dark colors.
 """
 from html import escape
 
@@ -13,24 +13,43 @@ LEFT, COLUMN, GAP, TOP = 150, 116, 6, 58
 WIDEST = 32767
 # how high the band of a core is, and that of a power domain
 CORE, DOMAIN = 56, 24
-FILLS = ("#ffffff", "#d9d9d9", "#a6a6a6", "#4d4d4d")
+FILLS = ("#f6f8fa", "#e3e3e3", "#c4c4c4", "#4d4d4d")
 CORES = {"running": "#b7e3b0", "started": "#d6ecfa", "pending": "#fdf3c4", "going off": "#f7d9a8"}
 STATES = {"running": "runs", "started": "started", "pending": "is to start",
           "going off": "goes off", "off": "off", "standby": "standby", "retention": "retention",
           "power-down": "power-down"}
-RED, BLUE, GREEN, GRAY = "#c62828", "#1f4e9c", "#2e7d32", "#888888"
-LEGEND = ("Dark is power-down, gray standby or retention, green a core that runs. "
-          "Dashed: lost. Red: stale, old or refused.")
-STYLE = """text { font-family: "DejaVu Sans", Verdana, sans-serif; font-size: 10px; fill: #222 }
-.name { font-size: 12px } .title { font-size: 14px }"""
+RED, BLUE, GREEN, GRAY = "#a31515", "#1f4e9c", "#2e7d32", "#888888"
+PAPER, INK, FAINT, LIGHT = "#fefefe", "#222222", "#333333", "#ffffff"
+LEGEND = ("The darker, the deeper a domain sleeps; green: the core runs. "
+          "Dashed: has not come. Red: stale, old or refused.")
+
+
+# each of these colors where the viewer's scheme is dark; here, too, the darker is the deeper
+DARK = {
+    PAPER: "#0d1117", INK: "#e6edf3", FAINT: "#d1d7e0", GRAY: "#8b949e", LIGHT: "#ffffff",
+    RED: "#ff9e9b", BLUE: "#79c0ff", GREEN: "#56d364",
+    **dict(zip(FILLS, ("#3d444d", "#2a3038", "#1c2128", "#000000"))),
+    CORES["running"]: "#1f4d2b", CORES["started"]: "#123a5c", CORES["pending"]: "#4d4210",
+    CORES["going off"]: "#5a3a12",
+}
+
+
+def style(dark=None):
+    """The style of a picture, with its colors where the scheme is dark."""
+    lines = ['text { font-family: "DejaVu Sans", Verdana, sans-serif; font-size: 10px }',
+             ".name { font-size: 12px } .title { font-size: 14px }",
+             "@media (prefers-color-scheme: dark) {"]
+    lines += [f'{kind}="{light}"] {{ {kind[1:]}: {color} }}' for light, color in (dark or DARK).items()
+              for kind in ("[fill", "[stroke")]
+    return "\n".join([*lines, "}"])
 
 
 class Picture:
     def __init__(self):
         self.parts = []
 
-    def text(self, x, y, said, kind="", fill=None, anchor="start"):
-        more = (f' class="{kind}"' if kind else "") + (f' style="fill: {fill}"' if fill else "")
+    def text(self, x, y, said, kind="", fill=INK, anchor="start"):
+        more = (f' class="{kind}"' if kind else "") + f' fill="{fill}"'
         shown = escape(said).encode("ascii", "xmlcharrefreplace").decode()
         self.parts.append(f'<text x="{x}" y="{y}" text-anchor="{anchor}"{more}>{shown}</text>')
 
@@ -45,7 +64,7 @@ class Picture:
         """An arrow, or where it never comes a dashed line with an open end."""
         if is_lost:
             self.line(x1, y1, x2, y2, color, ' stroke-width="1.5" stroke-dasharray="4 3"')
-            self.parts.append(f'<circle cx="{x2}" cy="{y2}" r="4" fill="white" stroke="{color}"/>')
+            self.parts.append(f'<circle cx="{x2}" cy="{y2}" r="4" fill="{PAPER}" stroke="{color}"/>')
             return
         self.line(x1, y1, x2, y2, color, ' stroke-width="1.5"')
         up = 1 if y2 > y1 else -1
@@ -54,8 +73,8 @@ class Picture:
     def written(self, width, height):
         head = (f'<svg xmlns="http://www.w3.org/2000/svg" width="{width}" height="{height}" '
                 f'viewBox="0 0 {width} {height}">')
-        return "\n".join([head, f"<style>{STYLE}</style>",
-                          f'<rect width="{width}" height="{height}" fill="white"/>',
+        return "\n".join([head, f"<style>{style()}</style>",
+                          f'<rect width="{width}" height="{height}" fill="{PAPER}"/>',
                           *self.parts, "</svg>\n"])
 
 
@@ -133,7 +152,7 @@ class Drawing:
                 fill = CORES.get(state, fill)
             if depth == 0 and state in ("standby", "retention", "power-down"):
                 said = f"asks {said}"
-        return fill, said, "#ffffff" if fill == FILLS[3] else "#555555"
+        return fill, said, LIGHT if fill == FILLS[3] else FAINT
 
     def marks(self):
         """What a core calls or enters, and the answer, where it happens."""
@@ -145,7 +164,7 @@ class Drawing:
             dark = self.look(event, 0, core)[0] == FILLS[3]
             self.picture.line(x, y - 3, x, y + CORE + 3, BLUE, ' stroke-width="2"')
             for at, (said, color) in enumerate(self.mark(event)):
-                self.picture.text(x + 4, y + 12 + 12 * at, said, fill="#ffffff" if dark else color)
+                self.picture.text(x + 4, y + 12 + 12 * at, said, fill=LIGHT if dark else color)
 
     @staticmethod
     def mark(event):
@@ -164,13 +183,15 @@ class Drawing:
             lines += [(more, BLUE)] * bool(more)
         said = event.said.split(";")[0].split(":")[0]
         if said != "stops":
-            lines.append((f"\u2192 {said}", RED if said in REFUSALS else BLUE))
+            # what AFFINITY_INFO says is a status, also where a refusal has its name
+            refused = said in REFUSALS and words[2] != "AFFINITY_INFO"
+            lines.append((f"\u2192 {said}", RED if refused else BLUE))
         return lines
 
     def messages(self):
         picture, last = self.picture, self.x(self.events[-1].number) + COLUMN - 10
         for y, name in ((self.firmware, "firmware"), (self.controller, "power controller")):
-            picture.line(LEFT, y, last, y, "#222222", ' stroke-width="2"')
+            picture.line(LEFT, y, last, y, INK, ' stroke-width="2"')
             picture.text(14, y + 4, name, "name")
         delivered, taken = self.comings()
         for event in self.events:
@@ -201,7 +222,7 @@ class Drawing:
                           RED if stale else BLUE)
         if not comings:
             picture.arrow(x, self.firmware, x + 36, self.firmware + 60, GRAY, True)
-            picture.text(x + 44, self.firmware + 64, "never comes")
+            picture.text(x + 44, self.firmware + 64, "comes later, or never" if self.window.goes_on else "never comes")
 
     def acknowledged(self, x, ack, comings):
         picture, parts = self.picture, self.parts.get(ack["message"])
@@ -209,7 +230,7 @@ class Drawing:
             "applied" if ack["applied"] else "not applied"
         picture.text(x - 4, self.controller + 16, f"acknowledged {ack['index']}:")
         picture.text(x - 4, self.controller + 29, applied + ", stale" * ack["stale"],
-                     fill=RED if ack["stale"] else None)
+                     fill=RED if ack["stale"] else INK)
         for event in comings:
             color, at = RED if event.answer == "old" else GREEN, self.x(event.number)
             picture.arrow(x + 6, self.controller, at, self.firmware, color)

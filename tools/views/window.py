@@ -42,7 +42,8 @@ class Window:
 
     def __init__(self, board, words):
         self.board, self.first, self.last = board, words.first, words.last
-        self.cores, self.count = words.cores, 0
+        # how many of the run's rows are in it, and whether the run goes on behind it
+        self.cores, self.count, self.goes_on = words.cores, 0, False
         self.nodes = [node for node in board.nodes if self.has_node(node)]
         # the core of each message, and of the message of each acknowledgement
         self.messages, self.replies = {}, {}
@@ -55,6 +56,7 @@ class Window:
         last = None
         for row in run:
             if row.number > self.last:
+                self.goes_on = True
                 for _ in run.file:
                     pass
                 return
