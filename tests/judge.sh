@@ -234,7 +234,7 @@ judged_kvm() {
     [ -e /usr/aarch64-linux-gnu/lib/libc.a ] || { skip "$payload/kvm" libc6-dev-arm64-cross; return; }
     if aarch64-linux-gnu-gcc -O2 -Wall -Wextra -Werror -std=gnu11 -static -pthread -o "$work/vmm" \
         "$payload/kvm/vmm.c" > "$work/out" 2>&1; then pass; else fail "$payload/kvm/vmm.c"; fi
-    if "$payload/kvm/run" > "$work/out" 2>&1 || ! grep -q "needs a folder" "$work/out"; then
+    if "$payload/kvm/run" > "$work/out" 2>&1 || ! grep -q "missing the folder" "$work/out"; then
         fail "$payload/kvm/run without words"
     else pass; fi
 }
