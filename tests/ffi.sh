@@ -300,7 +300,7 @@ END
         # shellcheck disable=SC2086
         lib_of "$kit" "$fresh" $words
         expect "./psci prove lib $words" 2 \
-            'psci: expected `psci prove [all | lib [--target MACHINE] [--unproved]]`; `psci prove --help` says more'
+            'psci: expected `psci prove [all | lib [--target MACHINE] [--unproved]]`; see `psci prove --help`'
     done
 }
 
