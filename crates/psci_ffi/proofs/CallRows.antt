@@ -111,6 +111,10 @@ opens : (k : Kept) (p : PolledView) → (IsNew board p → Opens (Ok tt) (Ok boa
     × Opens (Err Memory) (Ok board) k k × Opens (Err Uneven) (Err Uneven) k k
 opens k p = (λ h. h, λ h. h, (refl, refl), (refl, refl))
 
+-- nothing is opened, where nothing is left
+opens-nothing : Opens (Ok tt) (Ok board) None None → ⊥
+opens-nothing h = h
+
 -- which fault, by a number
 abbrev which : Result BoardValue BoardFault → ℕ
 which (Ok b) = 0

@@ -88,6 +88,10 @@ halting : (p : PolledView) → seen p.firmware ≡ halted → halting_read (Some
 unfolding computing
 halting p was = ap (λ (v : Values). v.halting) was
 
+-- the life, whatever start its cores entered by
+reads-life : (p : PolledView) → (seen p.firmware).life ≡ 2 → life_read (Some p) ≡ 2
+reads-life p life = life
+
 reads-now : (p : PolledView) → p.firmware.board ≡ board → seen p.firmware ≡ now
     → (life_read (Some p) ≡ 2) × (halting_read (Some p) ≡ false)
     -- the known starts: of core 3 its fourth one, and none of core 1
