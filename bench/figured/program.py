@@ -79,7 +79,7 @@ def replayed():
     """Instructions a line, as the difference of two runs, and bytes kept for each event of a long one."""
     made = calls, turns
     lines = [(instructions(it(20000)) - instructions(it(10000))) / 10000 for it in made]
-    few, many = 60, 1000000
+    few, many = 60, 900000
     kept = [(resident(it(many), many + 1) - resident(it(few), few + 1)) * 1024 / (many - few) for it in made]
     return Near(PAGE, REPLAYED, [["instructions a line", *(grouped(it + 0.5) for it in lines)],
                                  ["bytes kept for each event", *(grouped(it + 0.5) for it in kept)]])
