@@ -162,6 +162,23 @@ can_boot() {
     done
 }
 
+# what the page says that calls take is what is counted, within one in a hundred; a planted count is told
+el3_cost() {
+    can_boot || return
+    if EL3_OUT=$work/el3-cost hosts/el3/cost > "$work/counted" 2> "$work/err"; then pass; else fail hosts/el3/cost; return; fi
+    sed -n '/^## What it costs/,/^## /s/^    \(.*: [0-9]*\)$/cost: \1/p' hosts/el3/README.md | grep -v ': firmware' > "$work/lines"
+    if costs_agree "$work/counted"; then pass; else fail "hosts/el3/README.md says of calls what hosts/el3/cost does not print"; fi
+    sed 's/VERSION: 1/VERSION: 2/' "$work/counted" > "$work/planted"
+    if costs_agree "$work/planted"; then fail "a planted count of hosts/el3/cost is not told"; else pass; fi
+}
+
+# costs_agree COUNTED: the same calls as in $work/lines, and nearly the same numbers
+costs_agree() {
+    paste -d '|' "$work/lines" "$1" | awk -F '[:|]' '
+        NF != 6 || $2 != $5 || ($3 - $6) ^ 2 > ($6 / 100 + 1) ^ 2 { print; bad = 1 } END { exit bad || NR != 6 }' > "$work/out" ||
+        { cat "$work/out"; false; }
+}
+
 cache=${GUMDARTS_CACHE:-$HOME/.cache/gumdarts}
 space="exec 0x40000000-0x60000000 boot 0x40200000 starts 4294967295"
 
