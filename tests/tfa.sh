@@ -245,6 +245,6 @@ tfa_figures() {
     tfa_count parts 's/^ours: 0 call VERSION: [0-9]*/ours: 0 call VERSION: 999/' \
         'PSCI_VERSION, with the firmware inside: docs/port/TFA.md says [0-9,]*, it is 999'
     tfa_count measure '/^ours: held: CPU_OFF, firmware/d' "the firmware's, CPU_OFF, with the firmware inside: .*, it is nothing"
-    tfa_count waits 's/CPU_ON: \(.*\); ours \([0-9,]*\) times: [0-9,]*,/CPU_ON: \1; ours \2 times: 9,999,/' 'CPU_ON, with .* it is 9,999'
+    tfa_count waits 's/CPU_ON: \(.*\); ours \([0-9,]*\) times: [0-9,]*,/CPU_ON: \1; ours \2 times: 99,999,/' 'CPU_ON, with .* it is 99,999'
     tfa_count sizes 's/^stock: code and constants: .*/stock: code and constants: 4096/' 'code and constants, TF-A 2.12: .* it is 4,096'
 }
