@@ -2,7 +2,7 @@
 """A board of hosts/el3, from boards/NAME/board:
 
     boards.py place NAME           place.h: what stands where, and the map of EL3
-    boards.py tree NAME FILE       the guest's device tree for the machine of this text, where the board has one of its own
+    boards.py tree NAME FILE       the guest's device tree for this machine, where the board has its own
     boards.py staged ADDRESS OUT TO FILE..   how QEMU loads images that the board places; the table of them into OUT
     boards.py rows                 the table of README
     boards.py check                whether each board's place.h is that of its board, and each has at most 200 lines
