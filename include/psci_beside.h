@@ -1,7 +1,7 @@
 /* A firmware of yours, or an emulation of one, beside the proved library, call by call in one process
  * (docs/compare/BESIDE.md). A user compiles one file, hosts/beside/beside.c, and links the archive with a heap
  * (hosts/pool.c). It allocates nothing after the opening, and knows of no fuzzer, so that a unit test
- * can use it (tests/beside-unit.c). */
+ * can use it (tests/hosts/beside-unit.c). */
 #ifndef GUMDARTS_PSCI_BESIDE_H
 #define GUMDARTS_PSCI_BESIDE_H
 

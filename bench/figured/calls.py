@@ -19,8 +19,8 @@ BOARD = {"4 cores": ("2x2", "board"), "64": ("16x4", "board"), "256": ("16x16", 
 MACHINE = {"4 cores": ("2x2", "fields"), "64": ("16x4", "fields"), "256": ("16x16", "fields"),
            "256, height 3": ("16x4x4", "fields"), "256, strewn": ("16x16", "strewn")}
 EVERY = [*BOARD.values(), *MACHINE.values()]
-# what is called in the words of a machine; all else is as in the board's
-IN_WORDS = ("psci_smc_machine", "psci_core_of", "psci_mpidr_of", "psci_place_of")
+# what reads a machine's names; beside these only a call is in its words
+NAMES = ("psci_core_of", "psci_mpidr_of", "psci_place_of")
 # boards of each height, for the stack; and those of --check that are searched besides
 SMALL = ("3", "2x2", "2x2x2")
 SEARCHED = (("16x16", "board"),)
@@ -78,7 +78,7 @@ class Program:
 
 def is_kept(it):
     """Whether a list is kept of it: in the words of a machine only of what has them."""
-    return it.machine == "board" and it.function not in IN_WORDS or it.machine != "board" and it.function in IN_WORDS
+    return it.function not in NAMES if it.machine == "board" else it.function in ("psci_smc", *NAMES)
 
 
 def dearest(found):

@@ -82,14 +82,14 @@ class Archives:
         """The stack of each call, by the code of each archive."""
         found = {}
         for column, path in self.paths.items():
-            for line in said("tests/stack-need", path).splitlines():
+            for line in said("tests/hosts/stack-need", path).splitlines():
                 name, most = line.split()
                 found.setdefault(name, {})[column] = int(most)
         return found
 
     def memory(self):
         with tempfile.TemporaryDirectory() as room:
-            program, programs = f"{room}/memory", "tests/programs"
+            program, programs = f"{room}/memory", "tests/hosts/programs"
             said("cc", "-std=c11", "-O2", "-Iinclude", "-o", program, f"{programs}/memory.c",
                  f"{programs}/counted.c", self.paths["x86-64"])
             lines = said(program, *TREES.values()).splitlines()

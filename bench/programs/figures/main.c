@@ -288,12 +288,11 @@ static void stacks(const char *name) {
     world_keep();
     REFUSED("psci_open", psci_open(&firmware, bytes, length));
     REFUSED("psci_open_board", psci_open_board(&firmware, &board));
-    REFUSED("psci_open_machine", psci_open_machine(&machine, &board, &words, boot));
+    REFUSED("psci_open_machine", psci_open_machine(&firmware, &board, &words, boot));
     REFUSED("psci_open_poller", psci_open_poller(&firmware, &poller));
     REFUSED("psci_ctl_open", psci_ctl_open(&controller, bytes, length));
     REFUSED("psci_ctl_open_board", psci_ctl_open_board(&controller, &board));
     REFUSED("psci_close", psci_close(&firmware));
-    REFUSED("psci_close_machine", psci_close_machine(&machine));
     REFUSED("psci_close_poller", psci_close_poller(&poller));
     REFUSED("psci_ctl_close", psci_ctl_close(&controller));
 }

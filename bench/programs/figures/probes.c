@@ -7,7 +7,6 @@
 #include <string.h>
 
 static struct psci_answer answer;
-static struct psci_asked asked;
 static struct psci_ctl_answer done;
 static struct psci_frame frame;
 
@@ -21,11 +20,11 @@ enum { MANY = sizeof functions / sizeof *functions };
 
 static uint64_t low(uint64_t x0) { return x0 & 0x1f; }
 
-/* The registers of a call in the words of the machine: its MPIDRs stand for affinity words. */
-static uint64_t machine_word(uint64_t x0, uint64_t word) {
+/* The first argument of a call: a machine's MPIDRs stand for affinity words. */
+static uint64_t first_word(uint64_t x0, uint64_t word) {
     for (unsigned core = 0; core < cores; core++)
         if (affinity_of(core) == word && (low(x0) == 3 || low(x0) == 4 || low(x0) == 13))
-            return psci_mpidr_of(&machine, (uint16_t)core);
+            return called(core);
     return word;
 }
 
@@ -35,14 +34,9 @@ static bool call(const char *text, struct probed *it) {
     if (sscanf(text, "%u %" SCNi64 " %" SCNi64 " %" SCNi64 " %" SCNi64, &core, x, x + 1, x + 2, x + 3) != 5)
         return false;
     bool halts = psci_halting(&firmware);
-    if (machine.full) {
-        uint64_t word = machine_word(x[0], x[1]);
-        it->function = "psci_smc_machine";
-        STEP(psci_smc_machine(&firmware, &machine, (uint16_t)core, x[0], word, x[2], x[3], &answer, &asked));
-    } else {
-        it->function = "psci_smc";
-        STEP(psci_smc(&firmware, (uint16_t)core, x[0], x[1], x[2], x[3], &answer));
-    }
+    uint64_t word = first_word(x[0], x[1]);
+    it->function = "psci_smc";
+    STEP(psci_smc(&firmware, (uint16_t)core, x[0], word, x[2], x[3], &answer));
     const char *name = low(x[0]) < MANY ? functions[low(x[0])] : functions[5];
     if (low(x[0]) == 1 && is_initiated)
         name = "CPU_SUSPEND, OS-initiated";
@@ -141,9 +135,9 @@ static bool reader(const char *what, const char *text, struct probed *it) {
     READER("children", psci_children(&firmware, level, index))
     READER("stop", psci_stop(&firmware, core, b, &stop))
     READER("outstanding", psci_outstanding(&firmware, core, &frame))
-    READER("core_of", psci_core_of(&machine, a))
-    READER("mpidr_of", psci_mpidr_of(&machine, core))
-    READER("place_of", psci_place_of(&machine, level, index))
+    READER("core_of", psci_core_of(&firmware, a))
+    READER("mpidr_of", psci_mpidr_of(&firmware, core))
+    READER("place_of", psci_place_of(&firmware, level, index))
     READER("ctl_life", psci_ctl_life(&controller))
     READER("ctl_starts", psci_ctl_starts(&controller, core))
     READER("ctl_started", psci_ctl_started(&controller, core, &start))
@@ -249,7 +243,7 @@ static void each_of_machine(unsigned core) {
     one("mpidr_of %u", core);
     for (unsigned level = 0; level <= height; level++)
         one("place_of %u %u", level, level ? 0 : core);
-    one("core_of %#" PRIx64, psci_mpidr_of(&machine, (uint16_t)core));
+    one("core_of %#" PRIx64, called(core));
     one("core_of 0xff");
 }
 
@@ -278,7 +272,7 @@ unsigned each_probe(unsigned from, char texts[][TEXT]) {
     for (unsigned word = draw(4); word < 64; word += 4)
         one("smc %u 0x8400000a %#x 0 7", core, (word < 32 ? 0x84000000 : 0xc4000000) + word % 32);
     each_of_machine(beside);
-    if (!machine.full)
+    if (!has_machine)
         each_other(beside);
     return many;
 }
@@ -361,7 +355,7 @@ void draw_probe(char *text, size_t size) {
     else if (reader == CORES + NODES + ALL)
         snprintf(text, size, "poll %#" PRIx64, some_affinity());
     else if (reader == CORES + NODES + ALL + 1)
-        snprintf(text, size, "core_of %#" PRIx64, draw(5) ? psci_mpidr_of(&machine, (uint16_t)core) : some_affinity());
+        snprintf(text, size, "core_of %#" PRIx64, draw(5) ? called(core) : some_affinity());
     else
         snprintf(text, size, "stop %u %#x", core, draw(2) ? 0 : draw(2) ? 0xc4000001 : 0x84000002);
 }

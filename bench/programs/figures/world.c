@@ -1,4 +1,4 @@
-/* The board's words for what happens. A list is of such parts, behind each a semicolon:
+/* What happens. A list is of such parts, behind each a semicolon:
  *   on CORES       a core that runs calls CPU_ON for each of these, and its Start is delivered
  *   pend CORES     the same, and the Start is not delivered
  *   enter CORES    each of these that was started enters
@@ -20,18 +20,16 @@
 enum { ROOM = 8 << 20 };
 struct psci_place firmware;
 struct psci_ctl_place controller;
-struct psci_machine_place machine;
 struct psci_poller poller;
 struct psci_board board;
 struct psci_machine words;
 unsigned cores, height;
-bool is_initiated;
+bool has_machine, is_initiated;
 static _Alignas(16) unsigned char memory[ROOM], kept_memory[ROOM];
 static struct psci_frame acks[MOST + 1];
 static struct kept {
     struct psci_place firmware;
     struct psci_ctl_place controller;
-    struct psci_machine_place machine;
     struct psci_poller poller;
     struct psci_frame acks[MOST + 1];
     bool is_initiated;
@@ -91,6 +89,10 @@ uint64_t affinity_of(unsigned core) {
     return core % a | (uint64_t)(core / a % b) << 8 | (uint64_t)(core / a / b) << 16;
 }
 
+uint64_t called(unsigned core) {
+    return has_machine ? psci_mpidr_of(&firmware, (uint16_t)core) : affinity_of(core);
+}
+
 uint32_t state_word(unsigned level, unsigned depth) {
     uint32_t word = level << 24 | (uint32_t)(depth == 3) << 16;
     for (unsigned at = 0; at <= level; at++)
@@ -140,24 +142,25 @@ bool world_open(const char *name, const char *of_machine) {
     heap_refuse(0);
     firmware = (struct psci_place){0};
     controller = (struct psci_ctl_place){0};
-    machine = (struct psci_machine_place){0};
     poller = (struct psci_poller){0};
-    /* the core that boots is the last one of the tree */
-    return psci_open_board(&firmware, &board) == PSCI_OPENED && psci_ctl_open_board(&controller, &board) == PSCI_OPENED
-        && psci_open_poller(&firmware, &poller) == PSCI_OPENED
-        && (strcmp(of_machine, "board") == 0
-            || (name_machine(of_machine)
-                && psci_open_machine(&machine, &board, &words, words.mpidrs[cores - 1]) == PSCI_OPENED));
+    has_machine = strcmp(of_machine, "board") != 0;
+    if (has_machine && !name_machine(of_machine))
+        return false;
+    /* the core that boots a machine is the last one of the tree */
+    uint32_t opened = has_machine ? psci_open_machine(&firmware, &board, &words, words.mpidrs[cores - 1])
+                                  : psci_open_board(&firmware, &board);
+    return opened == PSCI_OPENED && psci_ctl_open_board(&controller, &board) == PSCI_OPENED
+        && psci_open_poller(&firmware, &poller) == PSCI_OPENED;
 }
 
 void world_keep(void) {
-    kept = (struct kept){firmware, controller, machine, poller, .is_initiated = is_initiated, .taken = taken};
+    kept = (struct kept){firmware, controller, poller, .is_initiated = is_initiated, .taken = taken};
     memcpy(kept.acks, acks, sizeof acks);
     memcpy(kept_memory, memory, kept.taken);
 }
 
 void world_back(void) {
-    firmware = kept.firmware, controller = kept.controller, machine = kept.machine, poller = kept.poller;
+    firmware = kept.firmware, controller = kept.controller, poller = kept.poller;
     is_initiated = kept.is_initiated;
     memcpy(acks, kept.acks, sizeof acks);
     taken = kept.taken;
@@ -225,7 +228,7 @@ static bool calls(const char *what, unsigned core, uint64_t number) {
 static bool happens(const char *what, unsigned core, uint64_t number) {
     struct psci_ctl_answer done;
     if (strcmp(what, "on") == 0 || strcmp(what, "pend") == 0) {
-        call(running_from(0), 0xc4000003, affinity_of(core), ENTRY);
+        call(running_from(0), 0xc4000003, called(core), ENTRY);
         if (*what == 'o')
             deliver(core);
     } else if (strcmp(what, "enter") == 0)

@@ -8,11 +8,11 @@ enum { ENTRY = 0x40001000, MOST = PSCI_MOST_CORES };
 
 extern struct psci_place firmware;
 extern struct psci_ctl_place controller;
-extern struct psci_machine_place machine;
 extern struct psci_poller poller;
 extern struct psci_board board;
 extern struct psci_machine words;
 extern unsigned cores, height;
+extern bool has_machine;  /* the calls are in the words of a machine */
 extern bool is_initiated; /* by the operating system: CPU_SUSPEND's mode */
 
 /* A board by its name, and a machine of it by its own: false where there is none. The names are those of the lists. */
@@ -25,8 +25,10 @@ bool world_play(const char *words);
 void world_keep(void);
 void world_back(void);
 
-/* The affinity word of a core; the least core from this one on that runs, in a ring, or the number of cores. */
+/* The affinity word of a core, of the board and as it is called; the least core from this one on that runs, in a ring, or
+ * the number of cores. */
 uint64_t affinity_of(unsigned core);
+uint64_t called(unsigned core);
 unsigned running_from(unsigned core);
 
 /* The power state word of this depth up to a level. */

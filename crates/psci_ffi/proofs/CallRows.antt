@@ -16,13 +16,14 @@ use Rattle.psci_link.specs.declared.frame.Frame.TheVariants.{Message, Ack}
 use Rattle.psci_link.specs.Frame.{first_fault, frame_bytes}
 use Rattle.psci_messages.specs.declared.kind.Kind.TheVariants.{Start}
 use Rattle.psci_messages.specs.Message.{AckValue, MessageValue}
-use Rattle.psci_status.specs.Polled.{IsNext, PolledView}
+use Rattle.psci_ffi.specs.Namings.{PlaceValue}
+use Rattle.psci_status.specs.Polled.{PolledView}
 use Rattle.psci_status.proofs.Calls.{Step, asks, board, boots, computing, history, on}
 use Rattle.psci_ffi.specs.declared.answer.Answer.{Answer}
 use Rattle.psci_ffi.specs.Frames.{IsAcknowledged, IsFaulty, IsMisplaced, IsRead, IsTaken, IsTakenBy}
 use Rattle.psci_ffi.specs.Frames.{IsTakenIn}
-use Rattle.psci_ffi.specs.Shown.{IsAfter, IsNew, IsSameIf, IsSameRefused, Opens, answered}
-use Rattle.psci_ffi.specs.Shown.{no_frame, refused, shown}
+use Rattle.psci_ffi.specs.Shown.{IsAfter, IsNewOn, IsNextIn, IsSameIf, IsSameRefused, Opens}
+use Rattle.psci_ffi.specs.Shown.{answered, no_frame, numbers, refused, shown}
 use Rattle.psci_ffi.specs.Slot.{Kept}
 use Rattle.psci_ffi.proofs.Apart.{apart-by, itself}
 
@@ -48,7 +49,7 @@ full (Some p) = 1
 
 abbrev returned : ℕ → Answer
 returned code =
-    record { what = 0; code = pos code; address = 0; context = 0; message = no_frame }
+    numbers 0 (pos code) 0 0 no_frame
 
 -- what is said of a firmware that has booted
 of : {A : Type 0} (said : BoardValue → Values → A) (f : FirmwareValue) → f.board ≡ board
@@ -57,11 +58,12 @@ of said f is was = ap (λ b. said b (seen f)) is ∙ ap (said board) was
 
 -- such a firmware answers a core's call so
 abbrev Answers : ℕ → FwCall → Answer → Type 0
-Answers core call a = (p : PolledView) → p.firmware.board ≡ board → seen p.firmware ≡ booted
+Answers core call a = (p : PlaceValue) → p.polled.firmware.board ≡ board
+    → seen p.polled.firmware ≡ booted
     → answered (Some p) core (Some call) ≡ a
 
 answers-by : (core : ℕ) (call : FwCall) → Answers core call (shown (answer board booted core call))
-answers-by core call p = of (λ b v. shown (answer b v core call)) p.firmware
+answers-by core call p = of (λ b v. shown (answer b v core call)) p.polled.firmware
 
 -- the caller counts: core 2 is off, and there is no core 4
 answers : Answers 0 version (returned 0x10001) × Answers 2 version (refused 19)
@@ -71,43 +73,44 @@ answers = (answers-by 0 version, answers-by 2 version, answers-by 4 version)
 
 -- What a call leaves --------------------------------------------------------------------------
 
-leaves : (k : Kept) (p q : PolledView) → IsAfter k 0 None k × IsAfter None 0 (Some version) None
-    × (IsNext p 0 on-3 q → IsAfter (Some p) 0 (Some on-3) (Some q))
-    × (IsAfter (Some p) 0 (Some on-3) (Some q) → IsNext p 0 on-3 q)
+leaves : (k : Kept) (p q : PlaceValue) → IsAfter k 0 None k × IsAfter None 0 (Some version) None
+    × (IsNextIn p 0 on-3 q → IsAfter (Some p) 0 (Some on-3) (Some q))
+    × (IsAfter (Some p) 0 (Some on-3) (Some q) → IsNextIn p 0 on-3 q)
 leaves k p q = (refl, refl, λ h. h, λ h. h)
 
 -- a place that no call was made of, or of which it was empty; and one whose firmware is lost
-leaves-not : (p : PolledView) → ¬ (IsAfter (Some p) 0 None None)
+leaves-not : (p : PlaceValue) → ¬ (IsAfter (Some p) 0 None None)
     × ¬ (IsAfter None 0 (Some version) (Some p)) × ¬ (IsAfter (Some p) 0 (Some version) None)
 leaves-not p = (λ h. apart-by full h refl, λ h. apart-by full h refl, λ h. h)
 
 -- Refusals ------------------------------------------------------------------------------------
 
 -- where no call is made, and in an empty place, nothing changes
-refused-and-changed : (p : PolledView) → ¬ (IsSameRefused (Some p) 0 None None)
+refused-and-changed : (p : PlaceValue) → ¬ (IsSameRefused (Some p) 0 None None)
     × ¬ (IsSameRefused None 0 (Some version) (Some p))
 refused-and-changed p = (λ h. apart-by full h refl, λ h. apart-by full h refl)
 
 -- a call of core 2, which is off, leaves all as it was; a call of core 0 need not
-refused-and-emptied : (p : PolledView) → p.firmware.board ≡ board → seen p.firmware ≡ booted
+refused-and-emptied : (p : PlaceValue) → p.polled.firmware.board ≡ board
+    → seen p.polled.firmware ≡ booted
     → IsSameRefused (Some p) 2 (Some on-3) None → ⊥
 unfolding computing
 refused-and-emptied p is was h =
     let same : IsSameIf (answer board booted 2 on-3) (Some p) None =
     subst (λ (r : FwReply). IsSameIf r (Some p) None)
-    (of (λ b v. answer b v 2 on-3) p.firmware is was) h in apart-by full same refl
+    (of (λ b v. answer b v 2 on-3) p.polled.firmware is was) h in apart-by full same refl
 
-accepted-and-changed : (p : PolledView) (k : Kept) → p.firmware.board ≡ board
-    → seen p.firmware ≡ booted → IsSameRefused (Some p) 0 (Some on-3) k
+accepted-and-changed : (p : PlaceValue) (k : Kept) → p.polled.firmware.board ≡ board
+    → seen p.polled.firmware ≡ booted → IsSameRefused (Some p) 0 (Some on-3) k
 unfolding computing
 accepted-and-changed p k is was =
     subst (λ (r : FwReply). IsSameIf r (Some p) k)
-    (sym (of (λ b v. answer b v 0 on-3) p.firmware is was)) tt
+    (sym (of (λ b v. answer b v 0 on-3) p.polled.firmware is was)) tt
 
 -- Opening -------------------------------------------------------------------------------------
 
-opens : (k : Kept) (p : PolledView) → (IsNew board p → Opens (Ok tt) (Ok board) k (Some p))
-    × (Opens (Ok tt) (Ok board) k (Some p) → IsNew board p)
+opens : (k : Kept) (p : PlaceValue) → (IsNewOn board p → Opens (Ok tt) (Ok board) k (Some p))
+    × (Opens (Ok tt) (Ok board) k (Some p) → IsNewOn board p)
     × Opens (Err Memory) (Ok board) k k × Opens (Err Uneven) (Err Uneven) k k
 opens k p = (λ h. h, λ h. h, (refl, refl), (refl, refl))
 
@@ -126,7 +129,7 @@ abbrev truth : Bool → ℕ
 truth true = 1
 truth false = 0
 
-opens-not : (k l : Kept) (p : PolledView) → ¬ (Opens (Ok tt) (Ok board) k None)
+opens-not : (k l : Kept) (p : PlaceValue) → ¬ (Opens (Ok tt) (Ok board) k None)
     × ¬ (Opens (Ok tt) (Err Uneven) k l)
     × ¬ (Opens (Err Memory) (Ok board) None (Some p))
     × ¬ (Opens (Err Memory) (Ok board) (Some p) None)
@@ -170,7 +173,7 @@ spelled kind count =
 empty-place-takes : IsTakenIn None (spelled 18 1) 16 None
 empty-place-takes = (refl, refl)
 
-takes-not : (p : PolledView) (bytes : List ℕ) (code : ℕ) → ¬ (IsTakenIn None (spelled 18 1) 0 None)
+takes-not : (p : PlaceValue) (bytes : List ℕ) (code : ℕ) → ¬ (IsTakenIn None (spelled 18 1) 0 None)
     × ¬ (IsTakenIn None (spelled 18 1) 16 (Some p)) × ¬ (IsTakenIn (Some p) bytes code None)
 takes-not p bytes code = (λ h. apart-by itself h.0 refl, λ h. apart-by full h.1 refl, λ h. h)
 
@@ -182,10 +185,12 @@ no-bytes p q = ((refl, refl), λ h. apart-by itself h.0 refl, λ h. h.1)
 
 -- the frame of a message is refused by its own number, and nothing changes; an acknowledgement is
 -- taken; and what is read is spelled so, of a core of the board
-reads : (p q : PolledView) (bytes : List ℕ) (code : ℕ)
+reads : (p q : PlaceValue) (bytes : List ℕ) (code : ℕ)
     → (IsTakenIn (Some p) bytes code (Some q) → IsTakenBy p bytes code q)
-    × (IsRead p bytes (Message start) → IsMisplaced start bytes code p q → (code ≡ 41) × (q ≡ p))
-    × (IsRead p bytes (Ack ack) → IsAcknowledged ack bytes code p q → IsTaken ack code p q)
-    × (IsRead p bytes (Message start) → bytes ≡ frame_bytes (Message start))
-    × (IsRead p bytes (Message start) → 3 < cores p.firmware.board)
+    × (IsRead p.polled bytes (Message start) → IsMisplaced start bytes code p.polled q.polled
+    → (code ≡ 41) × (q.polled ≡ p.polled))
+    × (IsRead p.polled bytes (Ack ack) → IsAcknowledged ack bytes code p.polled q.polled
+    → IsTaken ack code p.polled q.polled)
+    × (IsRead p.polled bytes (Message start) → bytes ≡ frame_bytes (Message start))
+    × (IsRead p.polled bytes (Message start) → 3 < cores p.polled.firmware.board)
 reads p q bytes code = (λ h. h, λ read h. h read, λ read h. h read, λ h. sym h.2, λ h. h.1.0)

@@ -70,8 +70,14 @@ nothing = record { some = false; bytes = replicate 53 0 }
 
 -- the answer of this number, code, address and context
 abbrev says : ℕ → ℤ → ℕ → ℕ → SomeFrame → Answer
-says what code address context message =
-    record { what = what; code = code; address = address; context = context; message = message }
+says what code address context message = record {
+  what = what;
+  code = code;
+  address = address;
+  context = context;
+  message = message;
+  asked = record { what = 0; states = 0 ∷ 0 ∷ 0 ∷ 0 ∷ []; reset = 0 };
+}
 
 -- core 3 is to be started, by its second start in life 1
 abbrev message : MessageValue

@@ -47,12 +47,24 @@ firmware = search (
 polled : IsSend Polled.the_row
 polled = search (sendable, heap.crosses, firmware, writer.the_field_send) depth 40 fits 20000
 
+description_send : IsSend Description.the_row
+description_send = search (sendable, heap.crosses) depth 40 fits 20000
+
+description_sync : IsSync Description.the_row
+description_sync = search (sendable, heap.crosses) depth 40 fits 20000
+
+machine_send : IsSend Platform.the_row
+machine_send = search (sendable, heap.crosses, description_send, board.the_send) depth 40 fits 20000
+
+machine_sync : IsSync Platform.the_row
+machine_sync = search (sendable, heap.crosses, description_sync, board.the_sync) depth 40 fits 20000
+
 common_send : IsSend Common.the_row
-common_send = search (sendable, heap.crosses, board.the_send, words.the_field_send)
+common_send = search (sendable, heap.crosses, board.the_send, machine_send, words.the_field_send)
     depth 40 fits 20000
 
 common_sync : IsSync Common.the_row
-common_sync = search (sendable, heap.crosses, board.the_sync, words.the_field_sync)
+common_sync = search (sendable, heap.crosses, board.the_sync, machine_sync, words.the_field_sync)
     depth 40 fits 20000
 
 pub held : IsSend Held.the_row
@@ -61,12 +73,6 @@ held = search (sendable, heap.crosses, polled, common_send, common_sync) depth 4
 pub watch : IsSend Watch.the_row
 watch = search (sendable, heap.crosses, common_send, common_sync, reader.the_field_send)
     depth 40 fits 20000
-
-description : IsSend Description.the_row
-description = search (sendable, heap.crosses) depth 40 fits 20000
-
-pub machine : IsSend Platform.the_row
-machine = search (sendable, heap.crosses, description, board.the_send) depth 40 fits 20000
 
 pub controller : IsSend Controller.the_row
 controller = search (

@@ -11,9 +11,7 @@ mod GivenRows
 pub mod MachineAxisRows
 pub mod MachineMaking
 mod MachineRows
-mod MachineToldRows
-pub mod NamedCalls
-pub mod NamedRows
+mod NamingRows
 mod PollerRows
 mod ReaderRows
 pub mod SlotEmpty
@@ -24,5 +22,4 @@ pub mod SlotMoves
 mod StopRows
 pub mod Switching
 pub mod Taking
-pub mod Telling
 mod WrittenRows

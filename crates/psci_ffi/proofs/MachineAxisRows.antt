@@ -1,10 +1,9 @@
 -- Worked examples: a machine of two clusters whose MPIDRs are no places, with words of which not
 -- all bits count and two states of one class, in either mode; and what an opening leaves in its
 -- place.
-use Rattle.std.proofs.Common.{◌≡◌, ℕ, Bool, List, [], ◌∷◌, ◌++◌, map, true, false, refl, ap}
-use Rattle.std.proofs.Common.{replicate}
-use Rattle.std.specs.Prelude.{Result, Ok, Err, None, Some}
-use Rattle.psci_abi.specs.declared.code.Code.{Code}
+use Rattle.std.proofs.Common.{◌≡◌, ◌∙◌, ℕ, Bool, List, [], ◌∷◌, ◌++◌, map, true, false, refl, ap}
+use Rattle.std.proofs.Common.{replicate, sym}
+use Rattle.std.specs.Prelude.{Option, Result, Ok, Err, None, Some}
 use Rattle.psci_abi.specs.declared.registers.Regs.{Regs}
 use Rattle.psci_abi.specs.declared.format.Format.TheVariants.{Original}
 use Rattle.psci_board.specs.Board.{BoardValue}
@@ -12,7 +11,6 @@ use Rattle.psci_board.specs.declared.fault.BoardFault.TheVariants as boards
 use Rattle.psci_fw.specs.Seen.{seen}
 use Rattle.psci_fw_spec.specs.declared.call.FwCall.TheVariants.{Smc}
 use Rattle.psci_fw_spec.specs.declared.mode.SuspendMode.TheVariants as modes
-use Rattle.psci_fw_spec.specs.declared.outcome.Act.TheVariants.{Return}
 use Rattle.psci_platform.specs.declared.asked.Asked.TheVariants as asks
 use Rattle.psci_platform.specs.declared.class.Class.{Class}
 use Rattle.psci_platform.specs.declared.class.Class.TheVariants.{Running, Standby, Retention}
@@ -26,13 +24,13 @@ use Rattle.psci_ffi.specs.declared.machine_fault.MachineFault.{MachineFault}
 use Rattle.psci_ffi.specs.declared.machine_fault.MachineFault.TheVariants.{Board, Room}
 use Rattle.psci_ffi.specs.declared.machine_given.GivenMachine.{GivenMachine}
 use Rattle.psci_ffi.specs.declared.machine_given.GivenRow.{GivenRow}
-use Rattle.psci_ffi.specs.MachineCalls.{IsMade, IsToldBy, OpensMachine, asked_in, asked_shown}
-use Rattle.psci_ffi.specs.MachineCalls.{called_in, core_read, mpidr_read, place_read, regs_given}
-use Rattle.psci_ffi.specs.MachineCalls.{regs_in, told_in}
-use Rattle.psci_ffi.specs.MachineSlot.{IsFull, KeptMachine}
+use Rattle.psci_ffi.specs.MachineOpening.{IsMade, IsNewWith, OpensMachine}
 use Rattle.psci_ffi.specs.Machines.{machine_on}
-use Rattle.psci_ffi.specs.Shown.{act_shown, answered, no_frame, shown}
-use Rattle.psci_ffi.proofs.Apart.{apart-by}
+use Rattle.psci_ffi.specs.Namings.{asked_in, regs_in}
+use Rattle.psci_ffi.specs.Readers.{core_read, mpidr_read, place_read}
+use Rattle.psci_ffi.specs.Shown.{asked_shown, called_in, regs_given, told_in}
+use Rattle.psci_ffi.specs.Slot.{IsFull, Kept}
+use Rattle.psci_ffi.proofs.Apart.{apart-by, itself}
 
 -- A machine -------------------------------------------------------------------------------------
 
@@ -92,26 +90,31 @@ last_boots : ◌≡◌ {A = Result PlatformValue MachineFault} (machine_on paire
 unfolding checking
 last_boots = refl
 
-abbrev kept : KeptMachine
+abbrev kept : Option PlatformValue
 kept = Some last
+
+-- a place that was opened with it
+abbrev placed : PolledView → Kept
+placed p = Some (record { polled = p; machine = kept })
 
 -- Names -----------------------------------------------------------------------------------------
 
-numbers_of_pairs : map (core_read kept) (0x100 ∷ 0x101 ∷ 0 ∷ 1 ∷ 2 ∷ [])
+numbers_of_pairs : (p : PolledView) → map (core_read (placed p)) (0x100 ∷ 0x101 ∷ 0 ∷ 1 ∷ 2 ∷ [])
     ≡ 3 ∷ 2 ∷ 1 ∷ 0 ∷ 0xFFFF ∷ []
 unfolding calling
-numbers_of_pairs = refl
+numbers_of_pairs p = refl
 
-mpidrs_of_pairs : map (mpidr_read kept) (3 ∷ 2 ∷ 1 ∷ 0 ∷ [])
+mpidrs_of_pairs : (p : PolledView) → map (mpidr_read (placed p)) (3 ∷ 2 ∷ 1 ∷ 0 ∷ [])
     ≡ 0x100 ∷ 0x101 ∷ 0 ∷ 1 ∷ []
 unfolding calling
-mpidrs_of_pairs = refl
+mpidrs_of_pairs p = refl
 
 -- of the clusters and of the system
-places_of_domains : map (place_read kept) (record { level = 1; place = 0 }
-    ∷ record { level = 1; place = 1 } ∷ record { level = 2; place = 0 } ∷ []) ≡ 1 ∷ 0 ∷ 0 ∷ []
+places_of_domains : (p : PolledView) → map (place_read (placed p))
+    (record { level = 1; place = 0 } ∷ record { level = 1; place = 1 }
+    ∷ record { level = 2; place = 0 } ∷ []) ≡ 1 ∷ 0 ∷ 0 ∷ []
 unfolding calling
-places_of_domains = refl
+places_of_domains p = refl
 
 -- Calls -----------------------------------------------------------------------------------------
 
@@ -139,33 +142,25 @@ second_state = refl
 
 -- the firmware is called, and what is asked is told, in the mode that it is in
 called_in_its_mode : (p : PolledView) → (seen p.firmware).mode ≡ modes.OsInitiated
-    → called_in kept (Some p) (regs 0xC4000001 0x01010100) ≡ Smc (regs 0xC4000001 0x01010023)
+    → called_in (placed p) (regs 0xC4000001 0x01010100) ≡ Smc (regs 0xC4000001 0x01010023)
 unfolding calling
 called_in_its_mode p mode = ap (λ m. Smc (regs_in kept m (regs 0xC4000001 0x01010100))) mode
 
 called_in_the_other_mode : (p : PolledView) → (seen p.firmware).mode ≡ modes.Platform
-    → called_in kept (Some p) (regs 0xC4000001 0x01010100) ≡ Smc (regs 0xC4000001 0xFFFFFFFF)
+    → called_in (placed p) (regs 0xC4000001 0x01010100) ≡ Smc (regs 0xC4000001 0xFFFFFFFF)
 unfolding calling
 called_in_the_other_mode p mode = ap (λ m. Smc (regs_in kept m (regs 0xC4000001 0x01010100))) mode
 
 told_in_its_mode : (p : PolledView) → (seen p.firmware).mode ≡ modes.OsInitiated
-    → told_in kept (Some p) (regs 0xC4000001 0x01010100)
+    → told_in (placed p) (regs 0xC4000001 0x01010100)
     ≡ record { what = 1; states = 1 ∷ 3 ∷ 0 ∷ 0 ∷ []; reset = 0 }
 unfolding asked_for
 told_in_its_mode p mode =
     ap (λ m. asked_shown (asked_in kept m (regs 0xC4000001 0x01010100))) mode
 
 -- without a firmware the call is as it came
-called_of_nothing : called_in kept None (regs 0xC4000003 0x100) ≡ Smc (regs 0xC4000003 0x100)
+called_of_nothing : called_in None (regs 0xC4000003 0x100) ≡ Smc (regs 0xC4000003 0x100)
 called_of_nothing = refl
-
--- a code that is told is the answer, and without a firmware none is
-told_is_answered : (p : PolledView) (code : Code) → IsToldBy (Some p) 0 (regs 0x84000000 0) code
-    → answered (Some p) 0 (Some (Smc (regs 0x84000000 0))) ≡ act_shown (Return code) no_frame
-told_is_answered p code told = ap shown told.answer
-
-nothing_tells : (code : Code) → IsToldBy None 0 (regs 0x84000000 0) code → ⊥
-nothing_tells code told = told
 
 -- Opening ---------------------------------------------------------------------------------------
 
@@ -173,31 +168,42 @@ abbrev truth : Bool → ℕ
 truth true = 1
 truth false = 0
 
--- a place that holds a machine, and one that does not
-abbrev full : KeptMachine → ℕ
+-- a place that holds a firmware, and one that does not
+abbrev full : Kept → ℕ
 full None = 0
-full (Some m) = 1
+full (Some f) = 1
 
-opens_not :
+opens_not : (p : PolledView) →
     -- want of memory is answered of a board without a fault alone
     ¬ (IsMade (Err (Board boards.Memory)) (Err boards.Uneven) paired 1)
     -- nor is it said by an opening, which leaves what was there
-    × ¬ (OpensMachine (Err (Board boards.Memory)) (Ok paired_board) paired 1 None kept)
-    × ¬ (OpensMachine (Err (Board boards.Memory)) (Err boards.Uneven) paired 1 kept kept)
+    × ¬ (OpensMachine (Err (Board boards.Memory)) (Ok paired_board) paired 1 None (placed p))
+    × ¬ (OpensMachine (Err (Board boards.Memory)) (Err boards.Uneven) paired 1 None None)
     -- a fault leaves what was there
-    × ¬ (OpensMachine (Err Room) (Ok paired_board) (record paired { many_rows = 65 }) 1 kept None)
-    × ¬ (OpensMachine (Ok tt) (Ok paired_board) paired 1 kept None)
+    × ¬ (OpensMachine (Err Room) (Ok paired_board) (record paired { many_rows = 65 }) 1 (placed p)
+    None)
+    × ¬ (OpensMachine (Ok tt) (Ok paired_board) paired 1 (placed p) None)
     -- a machine that is opened is in order
-    × ¬ (OpensMachine (Ok tt) (Ok paired_board) paired 1 None kept)
-    × ¬ (OpensMachine (Ok tt) (Err boards.Uneven) paired 1 kept kept) × ¬ (IsFull None)
+    × ¬ (OpensMachine (Ok tt) (Ok paired_board) paired 1 None (placed p))
+    × ¬ (OpensMachine (Ok tt) (Err boards.Uneven) paired 1 (placed p) (placed p)) × ¬ (IsFull None)
 unfolding checking
-opens_not = (
+opens_not p = (
   λ h. apart-by truth h refl,
   λ h. apart-by full h.1 refl,
   λ h. apart-by truth h.0 refl,
   λ h. apart-by full h.1 refl,
   λ h. h,
-  λ h. let e : false ≡ true = h.ready in absurd cc,
+  λ h. let e : false ≡ true = h.machine.ready in absurd cc,
   λ h. h,
   λ h. h,
+)
+
+-- the firmware is that of the machine's board, and the place has the machine
+new_not : (p : PolledView) → (p.firmware.board.starts ≡ 9
+    → ¬ (IsNewWith (record last { board = record paired_board { starts = 8 } })
+    (record { polled = p; machine = kept })))
+    × ¬ (IsNewWith last (record { polled = p; machine = None }))
+new_not p = (
+  λ nine h. apart-by itself (sym nine ∙ ap (λ (b : BoardValue). b.starts) h.fresh.board) refl,
+  λ h. h.machine,
 )

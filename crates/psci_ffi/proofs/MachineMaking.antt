@@ -9,12 +9,12 @@ use Rattle.psci_platform.specs.Cores.{boot_place}
 use Rattle.psci_platform.specs.declared.fault.PlatformFault.{PlatformFault}
 use Rattle.psci_platform.specs.Described.{DescriptionValue}
 use Rattle.psci_platform.specs.Faults.{fault_of}
-use Rattle.psci_platform.specs.Platforms.{IsInOrder, PlatformValue}
+use Rattle.psci_platform.specs.Platforms.{PlatformValue}
 use Rattle.psci_ffi.specs.declared.machine_fault.MachineFault.{MachineFault}
 use Rattle.psci_ffi.specs.declared.machine_fault.MachineFault.TheVariants as faults
 use Rattle.psci_ffi.specs.declared.machine_given.GivenMachine.{GivenMachine}
-use Rattle.psci_ffi.specs.MachineCalls.{IsMade, OpensMachine}
-use Rattle.psci_ffi.specs.MachineSlot.{KeptMachine}
+use Rattle.psci_ffi.specs.MachineOpening.{IsMade, IsNewWith, OpensMachine}
+use Rattle.psci_ffi.specs.Slot.{Kept}
 use Rattle.psci_ffi.specs.Machines.{has_room, machine_by, machine_given}
 
 abbrev Said : Type 0
@@ -64,19 +64,19 @@ pub ruleset making = (bad_board, no_room, no_memory)
 -- Opening --------------------------------------------------------------------------------------
 
 pub failed : (said : Said) (fault : MachineFault) (g : GivenMachine) (boot : ℕ)
-    (old left : KeptMachine) → IsMade (Err fault) said g boot → left ≡ old
+    (old left : Kept) → IsMade (Err fault) said g boot → left ≡ old
     → OpensMachine (Err fault) said g boot old left
 failed said (faults.Board boards.Memory) g boot old left is same = (is, same)
 failed said (faults.Board fault) g boot old left is same = (is, same)
 failed said fault g boot old left is same = (is, same)
 
 pub opened : (said : Said) (m : PlatformValue) (g : GivenMachine) (boot : ℕ)
-    (old left : KeptMachine) → IsMade (Ok m) said g boot → IsSomeAnd left (IsInOrder m)
+    (old left : Kept) → IsMade (Ok m) said g boot → IsSomeAnd left (IsNewWith m)
     → OpensMachine (Ok tt) said g boot old left
 opened said m g boot old left is same = rw is same
 
 pub lacking : (said : Said) (m : PlatformValue) (g : GivenMachine) (boot : ℕ)
-    (old left : KeptMachine) → IsMade (Ok m) said g boot → left ≡ old
+    (old left : Kept) → IsMade (Ok m) said g boot → left ≡ old
     → OpensMachine (Err (faults.Board boards.Memory)) said g boot old left
 lacking (Ok b) m g boot old left is same = (refl, same)
 lacking (Err fault) m g boot old left is same = absurd (cc)

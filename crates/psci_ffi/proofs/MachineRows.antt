@@ -2,7 +2,7 @@
 -- none, the numbers that C is answered, and calls in the words of a machine.
 use Rattle.std.proofs.Common.{◌≡◌, ℕ, ◌-◌, List, [], ◌∷◌, ◌++◌, length, map, true, false, refl}
 use Rattle.std.proofs.Common.{replicate}
-use Rattle.std.specs.Prelude.{Result, Ok, Err, None, Some}
+use Rattle.std.specs.Prelude.{Option, Result, Ok, Err, None, Some}
 use Rattle.psci_abi.specs.declared.registers.Regs.{Regs}
 use Rattle.psci_board.specs.declared.fault.BoardFault.TheVariants as boards
 use Rattle.psci_fw_spec.specs.declared.mode.SuspendMode.TheVariants as modes
@@ -21,14 +21,13 @@ use Rattle.psci_ffi.specs.declared.machine_fault.MachineFault.TheVariants.{Board
 use Rattle.psci_ffi.specs.declared.machine_given.GivenMachine.{GivenMachine}
 use Rattle.psci_ffi.specs.declared.machine_given.GivenRow.{GivenRow}
 use Rattle.psci_ffi.specs.Codes.{no_firmware}
-use Rattle.psci_ffi.specs.MachineCalls.{IsCalledIn, asked_in, asked_shown, core_read}
-use Rattle.psci_ffi.specs.MachineCalls.{mpidr_read, nothing_asked, place_read, regs_given}
-use Rattle.psci_ffi.specs.MachineCalls.{regs_in, told_in}
 use Rattle.psci_ffi.specs.MachineCodes.{machine_said}
-use Rattle.psci_ffi.specs.MachineSlot.{KeptMachine}
 use Rattle.psci_ffi.specs.Machines.{classes_given, functions_given, has_room, machine_by}
 use Rattle.psci_ffi.specs.Machines.{machine_given, machine_on}
-use Rattle.psci_ffi.specs.Shown.{refused}
+use Rattle.psci_ffi.specs.Namings.{asked_in, regs_in, word_in}
+use Rattle.psci_ffi.specs.Readers.{core_in, core_read, mpidr_in, mpidr_read, place_in, place_read}
+use Rattle.psci_ffi.specs.Shown.{answered, asked_shown, called_in, nothing_asked, refused}
+use Rattle.psci_ffi.specs.Shown.{regs_given, told_in, with_asked}
 use Rattle.psci_abi.proofs.Tables.{◌⇒◌, Gives}
 use Rattle.psci_ffi.proofs.Apart.{itself}
 
@@ -195,7 +194,7 @@ third = record {
   ready = None;
 }
 
-abbrev kept : KeptMachine
+abbrev kept : Option PlatformValue
 kept = Some third
 
 -- CPU_ON of the first core, which the firmware has as its third; CPU_SUSPEND by the machine's word,
@@ -219,7 +218,7 @@ states_asked : asked_in kept modes.Platform (regs 0xC4000001 0x00010033)
 unfolding asked_for
 states_asked = refl
 
-told_of_nothing : told_in kept None (regs 0xC4000001 0x00010033) ≡ nothing_asked
+told_of_nothing : told_in None (regs 0xC4000001 0x00010033) ≡ nothing_asked
 told_of_nothing = refl
 
 asked_of_nothing : asked_in None modes.Platform (regs 0xC4000001 0x00010033) ≡ asks.Nothing
@@ -228,19 +227,32 @@ asked_of_nothing = refl
 -- Names -----------------------------------------------------------------------------------------
 
 -- the boot core has number 0 and the first core its own; no core has MPIDR 4
-numbers_by_mpidr : map (core_read kept) (2 ∷ 0 ∷ 1 ∷ 3 ∷ 4 ∷ []) ≡ 0 ∷ 2 ∷ 1 ∷ 3 ∷ 0xFFFF ∷ []
+numbers_by_mpidr : map (core_in kept) (2 ∷ 0 ∷ 1 ∷ 3 ∷ 4 ∷ []) ≡ 0 ∷ 2 ∷ 1 ∷ 3 ∷ 0xFFFF ∷ []
 unfolding calling
 numbers_by_mpidr = refl
 
-mpidrs_by_number : map (mpidr_read kept) (0 ∷ 2 ∷ 1 ∷ 3 ∷ 4 ∷ [])
+mpidrs_by_number : map (mpidr_in kept) (0 ∷ 2 ∷ 1 ∷ 3 ∷ 4 ∷ [])
     ≡ 2 ∷ 0 ∷ 1 ∷ 3 ∷ 0xFFFFFFFFFFFFFFFF ∷ []
 unfolding calling
 mpidrs_by_number = refl
 
-places_in_tree : map (λ place. place_read kept (record { level = 0; place = place }))
+places_in_tree : map (λ place. place_in kept (record { level = 0; place = place }))
     (0 ∷ 1 ∷ 2 ∷ 3 ∷ []) ≡ 2 ∷ 1 ∷ 0 ∷ 3 ∷ []
 unfolding calling
 places_in_tree = refl
+
+-- the words of a poll are those of the board for them
+words_polled : map (word_in kept) (0 ∷ 2 ∷ 4 ∷ []) ≡ 2 ∷ 0 ∷ 0xFFFFFFFF ∷ []
+unfolding calling
+words_polled = refl
+
+-- without a machine a word is the board's own, and no core has an MPIDR
+own_names : Gives itself
+    (word_in None 0x101 ⇒ 0x101
+    ∷ core_in None 0 ⇒ 0xFFFF
+    ∷ mpidr_in None 0 ⇒ 0xFFFFFFFFFFFFFFFF
+    ∷ place_in None (record { level = 1; place = 3 }) ⇒ 3 ∷ [])
+own_names = refl
 
 -- of an empty place
 of_an_empty_place : Gives itself
@@ -250,6 +262,6 @@ of_an_empty_place : Gives itself
 of_an_empty_place = refl
 
 -- a call where there is no firmware is refused, and asks nothing
-no_call : IsCalledIn None None 0 (regs_given 0x84000000 0 0 0) (refused no_firmware) nothing_asked
-    None
-no_call = record { answer = refl; after = refl; refused = refl; asked = refl }
+no_call : with_asked (told_in None (regs 0x84000000 0))
+    (answered None 0 (Some (called_in None (regs 0x84000000 0)))) ≡ refused no_firmware
+no_call = refl

@@ -1,6 +1,6 @@
 -- Worked examples: one who polls a firmware, and what C gets of it.
 use Rattle.std.proofs.Common.{◌≡◌, inl, inr, ℕ, ℤ, pos, negsuc, List, [], ◌∷◌, refl, sym, ap, ◌∙◌}
-use Rattle.std.proofs.Common.{arith, None, Some}
+use Rattle.std.proofs.Common.{arith, None, Option, Some}
 use Rattle.atomic_table.specs.Seated.{TableId}
 use Rattle.psci_abi.specs.declared.code.Code.{Code}
 use Rattle.psci_board.specs.Board.{BoardValue}
@@ -11,10 +11,14 @@ use Rattle.psci_fw_spec.specs.AffinityInfo.{status_code}
 use Rattle.psci_status.specs.Lists.{Item, row}
 use Rattle.psci_status.specs.Polled.{PolledView}
 use Rattle.psci_status.proofs.Calls.{board, computing}
+use Rattle.psci_ffi.specs.Namings.{PlaceValue}
 use Rattle.psci_ffi.specs.PollerSlot.{KeptWatch}
 use Rattle.psci_ffi.specs.Pollers.{HasPolledIn, IsFilled, IsOpenedFor, OpensPoller}
 use Rattle.psci_ffi.specs.Watching.{HasPolled, IsWatchOf, WatchView}
 use Rattle.psci_ffi.proofs.Apart.{apart-by, itself, neither}
+use Rattle.psci_ffi.proofs.MachineAxisRows.{last as last-boots}
+use Rattle.psci_platform.proofs.Machines.{calling}
+use Rattle.psci_platform.specs.Platforms.{PlatformValue}
 
 -- Firmware, and who polls it ------------------------------------------------------------------
 
@@ -39,29 +43,41 @@ view f rows = record { firmware = f; table = table 2; written = rows }
 abbrev pub asked-rows : Rows
 asked-rows = (On ∷ Pending ∷ Off ∷ []) ∷ (Off ∷ []) ∷ (Off ∷ []) ∷ (Pending ∷ Off ∷ []) ∷ []
 
+-- the same in a place that was opened without a machine
+abbrev placed : FirmwareValue → Rows → PlaceValue
+placed f rows = record { polled = view f rows; machine = None }
+
 abbrev asked-seen : List (List Item)
 asked-seen = ((2, On) ∷ []) ∷ ((0, Off) ∷ []) ∷ ((0, Off) ∷ []) ∷ ((1, Pending) ∷ []) ∷ []
 
 abbrev watch : BoardValue → TableId → List (List Item) → WatchView
-watch b t items = record { board = b; table = t; seen = items }
+watch b t items = record { board = b; machine = None; table = t; seen = items }
 
 watches : (f : FirmwareValue) → f.board ≡ board
-    → IsWatchOf (view f asked-rows) (watch board (table 2) asked-seen)
-watches f is = record { board = sym is; table = refl; seen = refl }
+    → IsWatchOf (placed f asked-rows) (watch board (table 2) asked-seen)
+watches f is = record { board = sym is; machine = refl; table = refl; seen = refl }
+
+abbrev many : Option PlatformValue → ℕ
+many None = 0
+many (Some m) = 1
 
 -- the serial of the last item
 abbrev last : List Item → ℕ
 last [] = 99
 last (i ∷ is) = i.0
 
--- of another board, of other words, and one that has not seen the last of core 3, or nothing
+-- of another board, with a machine, of other words, and one that has not seen the last of core 3,
+-- or nothing
 watches-not : (f : FirmwareValue) → f.board ≡ board
-    → ¬ (IsWatchOf (view f asked-rows) (watch (record board { starts = 8 }) (table 2) asked-seen))
-    × ¬ (IsWatchOf (view f asked-rows) (watch board (table 5) asked-seen))
-    × ¬ (IsWatchOf (view f asked-rows) (watch board (table 2)
+    → ¬ (IsWatchOf (placed f asked-rows)
+    (record (watch board (table 2) asked-seen) { machine = Some last-boots }))
+    × ¬ (IsWatchOf (placed f asked-rows) (watch (record board { starts = 8 }) (table 2) asked-seen))
+    × ¬ (IsWatchOf (placed f asked-rows) (watch board (table 5) asked-seen))
+    × ¬ (IsWatchOf (placed f asked-rows) (watch board (table 2)
     (((2, On) ∷ []) ∷ ((0, Off) ∷ []) ∷ ((0, Off) ∷ []) ∷ ((0, Off) ∷ []) ∷ [])))
-    × ¬ (IsWatchOf (view f asked-rows) (watch board (table 2) ([] ∷ [] ∷ [] ∷ [] ∷ [])))
+    × ¬ (IsWatchOf (placed f asked-rows) (watch board (table 2) ([] ∷ [] ∷ [] ∷ [] ∷ [])))
 watches-not f is = (
+  λ w. apart-by many w.machine refl,
   λ w. apart-by (λ (b : BoardValue). b.starts) (w.board ∙ is) refl,
   λ w. apart-by (λ (t : TableId). t.atom) w.table refl,
   λ w. apart-by (λ (s : List (List Item)). last (row s 3)) w.seen refl,
@@ -87,18 +103,34 @@ core-3-is-on : HasPolled old 0x101 (code (pos 0)) new
 unfolding computing
 core-3-is-on = record {
   board = refl;
+  machine = refl;
   table = refl;
   answer = (On, (2, refl, ((1, Pending) ∷ [], refl), (omega arith, (tt, tt))), refl);
 }
 
 core-1-is-still-off : HasPolled old 1 (code (pos 1)) old
 unfolding computing
-core-1-is-still-off =
-    record { board = refl; table = refl; answer = (Off, (0, refl, ([], refl), (tt, tt)), refl) }
+core-1-is-still-off = record {
+  board = refl;
+  machine = refl;
+  table = refl;
+  answer = (Off, (0, refl, ([], refl), (tt, tt)), refl);
+}
 
 no-such-core : HasPolled old 2 (code (negsuc 1)) old
 unfolding computing
-no-such-core = record { board = refl; table = refl; answer = (refl, refl) }
+no-such-core = record { board = refl; machine = refl; table = refl; answer = (refl, refl) }
+
+-- a machine calls core 3 by another MPIDR
+named-core-3-is-on : HasPolled (record old { machine = Some last-boots }) 0x100 (code (pos 0))
+    (record new { machine = Some last-boots })
+unfolding computing calling
+named-core-3-is-on = record {
+  board = refl;
+  machine = refl;
+  table = refl;
+  answer = (On, (2, refl, ((1, Pending) ∷ [], refl), (omega arith, (tt, tt))), refl);
+}
 
 -- the number of a status, or 9
 abbrev number-in : Code → ℕ
@@ -108,13 +140,15 @@ abbrev last-code : List Item → ℕ
 last-code [] = 9
 last-code (i ∷ is) = status_code i.1
 
--- a poll changes neither the board nor whose words they are; no core is not off
-polled-not : ¬ (HasPolled old 2 (code (negsuc 1)) (watch (record board { starts = 8 }) (table 2)
+-- a poll changes neither the board nor its words nor whose words they are; no core is not off
+polled-not : ¬ (HasPolled old 2 (code (negsuc 1)) (record old { machine = Some last-boots }))
+    × ¬ (HasPolled old 2 (code (negsuc 1)) (watch (record board { starts = 8 }) (table 2)
     asked-seen))
     × ¬ (HasPolled old 2 (code (negsuc 1)) (watch board (table 5) asked-seen))
     × ¬ (HasPolled old 2 (code (pos 1)) old)
 unfolding computing
 polled-not = (
+  λ p. apart-by many p.machine refl,
   λ p. apart-by (λ (b : BoardValue). b.starts) p.board refl,
   λ p. apart-by (λ (t : TableId). t.atom) p.table refl,
   λ p. apart-by number-in p.answer.0 refl,
@@ -154,20 +188,20 @@ fills-not = (
 
 -- a poller of this firmware is opened, with one in it before and with none; or it is not
 opens : (f : FirmwareValue) → f.board ≡ board
-    → OpensPoller (Some (view f asked-rows)) 0 empty full
-    × OpensPoller (Some (view f asked-rows)) 0 (Some new) full
-    × OpensPoller (Some (view f asked-rows)) 8 full full × OpensPoller None 16 full full
+    → OpensPoller (Some (placed f asked-rows)) 0 empty full
+    × OpensPoller (Some (placed f asked-rows)) 0 (Some new) full
+    × OpensPoller (Some (placed f asked-rows)) 8 full full × OpensPoller None 16 full full
 opens f is = (inl (refl, watches f is), inl (refl, watches f is), inr (refl, refl), (refl, refl))
 
 -- one who polls other words; none; another number; one is put there without memory or firmware
 opens-not : (f : FirmwareValue) → f.board ≡ board
-    → ¬ (IsOpenedFor (view f asked-rows) 0 empty (Some (watch board (table 5) asked-seen)))
-    × ¬ (IsOpenedFor (view f asked-rows) 0 empty empty)
-    × ¬ (IsOpenedFor (view f asked-rows) 16 empty full)
-    × ¬ (IsOpenedFor (view f asked-rows) 8 empty full)
+    → ¬ (IsOpenedFor (placed f asked-rows) 0 empty (Some (watch board (table 5) asked-seen)))
+    × ¬ (IsOpenedFor (placed f asked-rows) 0 empty empty)
+    × ¬ (IsOpenedFor (placed f asked-rows) 16 empty full)
+    × ¬ (IsOpenedFor (placed f asked-rows) 8 empty full)
     × ¬ (OpensPoller None 0 empty full) × ¬ (OpensPoller None 16 full empty)
 opens-not f is = (
-  neither (λ h. (watches-not f is).1 h.1) (λ h. apart-by itself h.0 refl),
+  neither (λ h. (watches-not f is).2 h.1) (λ h. apart-by itself h.0 refl),
   neither (λ h. h.1) (λ h. apart-by itself h.0 refl),
   neither (λ h. apart-by itself h.0 refl) (λ h. apart-by itself h.0 refl),
   neither (λ h. apart-by itself h.0 refl) (λ h. apart-by is-full h.1 refl),

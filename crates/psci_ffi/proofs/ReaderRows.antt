@@ -12,7 +12,7 @@ use Rattle.psci_fw_spec.specs.Values.{Values}
 use Rattle.psci_fw_state.specs.Seen.{message_shown}
 use Rattle.psci_messages.specs.declared.kind.Kind.TheVariants as kinds
 use Rattle.psci_messages.specs.declared.start.Cause.TheVariants as causes
-use Rattle.psci_status.specs.Polled.{PolledView}
+use Rattle.psci_ffi.specs.Namings.{PlaceValue}
 use Rattle.psci_status.proofs.Calls.{Step, board, boots, computing, enters, history, off, on}
 use Rattle.psci_status.proofs.Calls.{system_off}
 use Rattle.psci_status.proofs.Calls.{takes}
@@ -84,15 +84,15 @@ both : {A : Type 0} (said : BoardValue → Values → A) (f : FirmwareValue) (v 
     → f.board ≡ board → seen f ≡ v → said f.board (seen f) ≡ said board v
 both said f v is was = ap (λ b. said b (seen f)) is ∙ ap (said board) was
 
-halting : (p : PolledView) → seen p.firmware ≡ halted → halting_read (Some p) ≡ true
+halting : (p : PlaceValue) → seen p.polled.firmware ≡ halted → halting_read (Some p) ≡ true
 unfolding computing
 halting p was = ap (λ (v : Values). v.halting) was
 
 -- the life, whatever start its cores entered by
-reads-life : (p : PolledView) → (seen p.firmware).life ≡ 2 → life_read (Some p) ≡ 2
+reads-life : (p : PlaceValue) → (seen p.polled.firmware).life ≡ 2 → life_read (Some p) ≡ 2
 reads-life p life = life
 
-reads-now : (p : PolledView) → p.firmware.board ≡ board → seen p.firmware ≡ now
+reads-now : (p : PlaceValue) → p.polled.firmware.board ≡ board → seen p.polled.firmware ≡ now
     → (life_read (Some p) ≡ 2) × (halting_read (Some p) ≡ false)
     -- the known starts: of core 3 its fourth one, and none of core 1
     × (known_read (Some p) 0 ∷ known_read (Some p) 1 ∷ known_read (Some p) 3 ∷ [] ≡ 1 ∷ 0 ∷ 4 ∷ [])
@@ -111,25 +111,28 @@ reads-now p is was = (
   ap (λ (v : Values). v.known 0 ∷ v.known 1 ∷ v.known 3 ∷ []) was,
   ap (λ (v : Values). is_running (v.phase 0) ∷ is_running (v.phase 3) ∷ []) was,
   both (λ b v. map (granted_said b v) (node 0 3 ∷ node 1 1 ∷ node 1 0 ∷ node 2 0 ∷ []))
-      p.firmware now is was,
-  both (λ b v. map (hw_said b v) (node 0 0 ∷ node 0 3 ∷ node 1 1 ∷ [])) p.firmware now is was,
+      p.polled.firmware now is was,
+  both (λ b v. map (hw_said b v) (node 0 0 ∷ node 0 3 ∷ node 1 1 ∷ []))
+      p.polled.firmware now is was,
 )
 
 -- ON, OFF and ON_PENDING, of cores and of a cluster; before any core has entered none of these
-statuses : (p : PolledView) → p.firmware.board ≡ board → seen p.firmware ≡ asked
+statuses : (p : PlaceValue) → p.polled.firmware.board ≡ board → seen p.polled.firmware ≡ asked
     → status_read (Some p) (node 0 0) ∷ status_read (Some p) (node 0 1)
     ∷ status_read (Some p) (node 0 3) ∷ status_read (Some p) (node 1 1) ∷ [] ≡ 0 ∷ 1 ∷ 2 ∷ 2 ∷ []
 unfolding computing node_status
 statuses p is was =
     both (λ b v. status_said b v (node 0 0) ∷ status_said b v (node 0 1)
-    ∷ status_said b v (node 0 3) ∷ status_said b v (node 1 1) ∷ []) p.firmware asked is was
+    ∷ status_said b v (node 0 3) ∷ status_said b v (node 1 1) ∷ []) p.polled.firmware asked is was
 
-before-any-entry : (p : PolledView) → p.firmware.board ≡ board → (seen p.firmware).life ≡ 0
+before-any-entry : (p : PlaceValue) → p.polled.firmware.board ≡ board
+    → (seen p.polled.firmware).life ≡ 0
     → (status_read (Some p) (node 0 0) ≡ 18) × (hw_read (Some p) (node 0 0) ≡ 18)
 before-any-entry p is none = (
-  ap (λ b. node_said (has_node b (node 0 0)) (status_code (status_shown p.firmware (node 0 0)))) is
+  ap (λ b. node_said (has_node b (node 0 0))
+      (status_code (status_shown p.polled.firmware (node 0 0)))) is
       ∙ rw none refl,
-  ap (λ b. node_said (has_node b (node 0 0)) (hw_number (hw_shown p.firmware (node 0 0)))) is
+  ap (λ b. node_said (has_node b (node 0 0)) (hw_number (hw_shown p.polled.firmware (node 0 0)))) is
       ∙ rw none refl,
 )
 
@@ -138,45 +141,49 @@ before-any-entry p is none = (
 abbrev nowhere : List Node
 nowhere = node 0 4 ∷ node 1 2 ∷ node 3 0 ∷ []
 
-no-such-node : (p : PolledView) → p.firmware.board ≡ board
+no-such-node : (p : PlaceValue) → p.polled.firmware.board ≡ board
     → (map (status_read (Some p)) nowhere ≡ 17 ∷ 17 ∷ 17 ∷ [])
     × (map (hw_read (Some p)) nowhere ≡ 17 ∷ 17 ∷ 17 ∷ [])
     × (map (granted_read (Some p)) nowhere ≡ 17 ∷ 17 ∷ 17 ∷ [])
 no-such-node p is = (
-  ap (λ b. map (λ n. node_said (has_node b n) (status_code (status_shown p.firmware n))) nowhere)
+  ap (λ b. map (λ n. node_said (has_node b n)
+      (status_code (status_shown p.polled.firmware n))) nowhere)
       is,
-  ap (λ b. map (λ n. node_said (has_node b n) (hw_number (hw_shown p.firmware n))) nowhere) is,
-  ap (λ b. map (λ n. node_said (has_node b n) ((seen p.firmware).granted n.level n.place)) nowhere)
+  ap (λ b. map (λ n. node_said (has_node b n)
+      (hw_number (hw_shown p.polled.firmware n))) nowhere) is,
+  ap (λ b. map (λ n. node_said (has_node b n)
+      ((seen p.polled.firmware).granted n.level n.place)) nowhere)
       is,
 )
 
 -- the Start of core 3 waits for its acknowledgement; nothing of core 0, nor of the system
-waiting : (p : PolledView) → p.firmware.board ≡ board → seen p.firmware ≡ asked
+waiting : (p : PlaceValue) → p.polled.firmware.board ≡ board → seen p.polled.firmware ≡ asked
     → (outstanding_read (Some p) 3).some ∷ (outstanding_read (Some p) 0).some
     ∷ (outstanding_read (Some p) 4).some ∷ [] ≡ true ∷ false ∷ false ∷ []
 unfolding computing
 waiting p is was =
     both (λ b v. (frame_shown (message_shown b v 3)).some ∷ (frame_shown (message_shown b v 0)).some
-    ∷ (frame_shown (message_shown b v 4)).some ∷ []) p.firmware asked is was
+    ∷ (frame_shown (message_shown b v 4)).some ∷ []) p.polled.firmware asked is was
 
 -- at the number of cores, the system's
-waiting-of-the-system : (p : PolledView) → p.firmware.board ≡ board → seen p.firmware ≡ halted
+waiting-of-the-system : (p : PlaceValue) → p.polled.firmware.board ≡ board
+    → seen p.polled.firmware ≡ halted
     → (outstanding_read (Some p) 0).some ∷ (outstanding_read (Some p) 4).some
     ∷ (outstanding_read (Some p) 5).some ∷ [] ≡ false ∷ true ∷ false ∷ []
 unfolding computing
 waiting-of-the-system p is was =
     both (λ b v. (frame_shown (message_shown b v 0)).some ∷ (frame_shown (message_shown b v 4)).some
-    ∷ (frame_shown (message_shown b v 5)).some ∷ []) p.firmware halted is was
+    ∷ (frame_shown (message_shown b v 5)).some ∷ []) p.polled.firmware halted is was
 
 -- Its board --------------------------------------------------------------------------------------
 
-of-the-board : (p : PolledView) → p.firmware.board ≡ board
+of-the-board : (p : PlaceValue) → p.polled.firmware.board ≡ board
     → cores_read (Some p) ∷ height_read (Some p) ∷ nodes_read (Some p) 0 ∷ nodes_read (Some p) 1
     ∷ nodes_read (Some p) 2 ∷ nodes_read (Some p) 3 ∷ [] ≡ 4 ∷ 2 ∷ 4 ∷ 2 ∷ 1 ∷ 0 ∷ []
 of-the-board p is =
     ap (λ (b : BoardValue). board_said b) is
 
-children-of : (p : PolledView) → p.firmware.board ≡ board
+children-of : (p : PlaceValue) → p.polled.firmware.board ≡ board
     → map (children_read (Some p)) (node 0 0 ∷ node 1 1 ∷ node 1 2 ∷ node 2 0 ∷ node 3 0 ∷ [])
     ≡ 0 ∷ 2 ∷ 0 ∷ 2 ∷ 0 ∷ []
 children-of p is =

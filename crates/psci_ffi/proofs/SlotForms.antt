@@ -1,12 +1,9 @@
--- The four slots.
+-- The three slots.
 use mathlib.Core.Path.{refl}
 use Rattle.psci_ctl.specs.contracts.controller.Controller as Controller
 use Rattle.psci_ctl.proofs.controller.Controller.TheLaws as controller-laws
-use Rattle.psci_platform.specs.contracts.platform.Platform as Platform
-use Rattle.psci_platform.proofs.platform.Platform.TheLaws as platform-laws
 use Rattle.psci_ffi.specs.contracts.controller_slot.ControllerSlot as ControllerSlot
 use Rattle.psci_ffi.specs.contracts.held.Held as Held
-use Rattle.psci_ffi.specs.contracts.machine_slot.MachineSlot as MachineSlot
 use Rattle.psci_ffi.specs.contracts.poller_slot.PollerSlot as PollerSlot
 use Rattle.psci_ffi.specs.contracts.slot.Slot as Slot
 use Rattle.psci_ffi.specs.contracts.watch.Watch as Watch
@@ -42,17 +39,6 @@ poller = record {
   inner = Watch.the_row;
   laws = watch-laws.the_row_laws;
   type = PollerSlot.the_type;
-  parts = λ s. (s.ptr, s.alloc, s.kept);
-  made = λ m. record { ptr = m.0; alloc = m.1; kept = m.2 };
-  made_is = λ m. refl;
-}
-
--- of a machine
-abbrev pub machine : Form
-machine = record {
-  inner = Platform.the_row;
-  laws = platform-laws.the_row_laws;
-  type = MachineSlot.the_type;
   parts = λ s. (s.ptr, s.alloc, s.kept);
   made = λ m. record { ptr = m.0; alloc = m.1; kept = m.2 };
   made_is = λ m. refl;

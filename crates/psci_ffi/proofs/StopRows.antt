@@ -11,7 +11,7 @@ use Rattle.psci_messages.specs.declared.kind.Kind.TheVariants as kinds
 use Rattle.psci_messages.specs.declared.start.Cause.TheVariants as causes
 use Rattle.psci_messages.specs.Message.{MessageValue}
 use Rattle.psci_messages.specs.declared.part.Part.{Part}
-use Rattle.psci_status.specs.Polled.{PolledView}
+use Rattle.psci_ffi.specs.Namings.{PlaceValue}
 use Rattle.psci_status.proofs.Calls.{Step, asks, board, boots, computing, enters, history, off, on}
 use Rattle.psci_status.proofs.Calls.{system_off}
 use Rattle.psci_ffi.specs.declared.stop.Stopping.{Stopping}
@@ -77,13 +77,14 @@ empty-place = refl
 
 -- what is read of a core of a firmware with these values, for the function that it called
 abbrev Reads : Values → ℕ → ℕ → Stopping → Type 0
-Reads v core word s = (p : PolledView) → p.firmware.board ≡ board → seen p.firmware ≡ v
+Reads v core word s = (p : PlaceValue) → p.polled.firmware.board ≡ board
+    → seen p.polled.firmware ≡ v
     → stop_read (Some p) core word ≡ s
 
 reads : (v : Values) (core word : ℕ)
     → Reads v core word (stop_sent (message_shown board v core) word)
 reads v core word p is was =
-    ap (λ (b : BoardValue). stop_sent (message_shown b (seen p.firmware) core) word) is
+    ap (λ (b : BoardValue). stop_sent (message_shown b (seen p.polled.firmware) core) word) is
     ∙ ap (λ (u : Values). stop_sent (message_shown board u core) word) was
 
 -- core 3 was on alone in its cluster, and went off

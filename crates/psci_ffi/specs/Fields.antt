@@ -71,7 +71,7 @@ pub record IsDecoded (f : PolledView) (bytes : List ℕ) (code : ℕ) (old new :
 -- the same of a place: without a firmware nothing is read
 abbrev pub IsDecodedIn : Kept → List ℕ → ℕ → Fields → Fields → Type 0
 IsDecodedIn None bytes code old new = (code ≡ no_firmware) × (new ≡ old)
-IsDecodedIn (Some f) bytes code old new = IsDecoded f bytes code old new
+IsDecodedIn (Some f) bytes code old new = IsDecoded f.polled bytes code old new
 
 -- Writing --------------------------------------------------------------------------------------
 

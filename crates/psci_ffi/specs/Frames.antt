@@ -12,6 +12,7 @@ use Rattle.psci_link.specs.declared.frame.Frame.TheVariants.{Ack, Message}
 use Rattle.psci_link.specs.Frame.{IsFrame, IsOf, first_fault, frame_bytes}
 use Rattle.psci_messages.specs.Message.{AckValue, MessageValue}
 use Rattle.psci_ffi.specs.Codes.{frame_code, no_firmware, not_an_ack, taken_code}
+use Rattle.psci_ffi.specs.Namings.{PlaceValue}
 use Rattle.psci_ffi.specs.Slot.{Kept}
 
 -- bytes with this first fault: its code, and nothing changes
@@ -46,11 +47,12 @@ abbrev pub IsAcknowledged : AckValue → List ℕ → ℕ → PolledView → Pol
 IsAcknowledged a bytes code old new = IsRead old bytes (Ack a) → IsTaken a code old new
 
 -- what becomes of bytes that a firmware is given
-pub record IsTakenBy (f : PolledView) (bytes : List ℕ) (code : ℕ) (g : PolledView)
+pub record IsTakenBy (f : PlaceValue) (bytes : List ℕ) (code : ℕ) (g : PlaceValue)
     : Type 0 where
-  pub fault : IsFaulty bytes code f g
-  pub message : (m : MessageValue) → IsMisplaced m bytes code f g
-  pub ack : (a : AckValue) → IsAcknowledged a bytes code f g
+  pub fault : IsFaulty bytes code f.polled g.polled
+  pub message : (m : MessageValue) → IsMisplaced m bytes code f.polled g.polled
+  pub ack : (a : AckValue) → IsAcknowledged a bytes code f.polled g.polled
+  pub machine : g.machine ≡ f.machine
 
 -- the same of a place: an empty one stays so
 abbrev pub IsTakenIn : Kept → List ℕ → ℕ → Kept → Type 0

@@ -6,11 +6,9 @@ use Rattle.std.specs.Borrow.{Lends}
 use Rattle.psci_ctl.specs.contracts.controller.Controller as Controller
 use Rattle.psci_ffi.specs.contracts.controller_slot.ControllerSlot as ControllerSlot
 use Rattle.psci_ffi.specs.contracts.held.Held as Held
-use Rattle.psci_ffi.specs.contracts.machine_slot.MachineSlot as MachineSlot
 use Rattle.psci_ffi.specs.contracts.poller_slot.PollerSlot as PollerSlot
 use Rattle.psci_ffi.specs.contracts.slot.Slot as Slot
 use Rattle.psci_ffi.specs.contracts.watch.Watch as Watch
-use Rattle.psci_platform.specs.contracts.platform.Platform as Platform
 
 -- the slot with this in it
 abbrev pub with_held : Slot.the_row.Denot → Held.the_row.Denot → Slot.the_row.Denot
@@ -19,15 +17,6 @@ with_held s h = record s { kept = Some h }
 -- the slot ends with what was last written through the borrow
 abbrev pub LendsHeld : MutBor Slot.the_row.Denot → MutBor Held.the_row.Denot → Fml
 LendsHeld s r = Lends Slot.the_row Held.the_row s r (with_held s.now)
-
--- the slot of a machine with this in it
-abbrev pub with_machine : MachineSlot.the_row.Denot → Platform.the_row.Denot
-    → MachineSlot.the_row.Denot
-with_machine s m = record s { kept = Some m }
-
--- the slot of a machine ends with what was last written through the borrow
-abbrev pub LendsMachine : MutBor MachineSlot.the_row.Denot → MutBor Platform.the_row.Denot → Fml
-LendsMachine s r = Lends MachineSlot.the_row Platform.the_row s r (with_machine s.now)
 
 -- the slot of a power controller with this in it
 abbrev pub with_controller : ControllerSlot.the_row.Denot → Controller.the_row.Denot

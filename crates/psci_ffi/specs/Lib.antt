@@ -7,13 +7,10 @@ pub mod Fields
 pub mod Frames
 pub mod Given
 pub mod Lending
-pub mod MachineCalls
 pub mod MachineCodes
-pub mod MachineNamed
-pub mod MachineSlot
-pub mod MachineTold
+pub mod MachineOpening
 pub mod Machines
-pub mod Named
+pub mod Namings
 pub mod PollerSlot
 pub mod Pollers
 pub mod Readers

@@ -1,7 +1,7 @@
 -- What C gets of a place for one who polls.
 use Rattle.std.specs.Prelude.{◌≡◌, ◌⊎◌, ℕ, ℤ, pos, None, Some, IsSomeAnd}
-use Rattle.psci_status.specs.Polled.{PolledView}
 use Rattle.psci_ffi.specs.Codes.{no_firmware, no_memory}
+use Rattle.psci_ffi.specs.Namings.{PlaceValue}
 use Rattle.psci_ffi.specs.PollerSlot.{KeptWatch}
 use Rattle.psci_ffi.specs.Slot.{Kept}
 use Rattle.psci_ffi.specs.Watching.{HasPolled, IsWatchOf, WatchView}
@@ -13,7 +13,7 @@ IsFilled w said old new =
 
 -- what was said of opening a poller of this firmware, and what is in it then: one who polls, or for
 -- want of memory what was there
-abbrev pub IsOpenedFor : PolledView → ℕ → KeptWatch → KeptWatch → Type 0
+abbrev pub IsOpenedFor : PlaceValue → ℕ → KeptWatch → KeptWatch → Type 0
 IsOpenedFor f said old new =
     ((said ≡ 0) × IsSomeAnd new (IsWatchOf f)) ⊎ ((said ≡ no_memory) × (new ≡ old))
 

@@ -1,5 +1,5 @@
 -- What C is told, and what a call leaves in a place.
-use Rattle.std.specs.Prelude.{◌≡◌, ℕ, true, false, pos, Option, None, Some}
+use Rattle.std.specs.Prelude.{◌≡◌, ℕ, ℤ, true, false, pos, Option, None, Some}
 use Rattle.std.specs.Prelude.{[], ◌∷◌, Result, Ok, Err, IsOk, IsSomeAnd, option_map, replicate}
 use Rattle.psci_abi.specs.declared.code.Code.{Code}
 use Rattle.psci_abi.specs.declared.registers.Regs.{Regs}
@@ -22,7 +22,12 @@ use Rattle.psci_link.specs.Frame.{frame_bytes}
 use Rattle.psci_messages.specs.Message.{MessageValue}
 use Rattle.psci_ffi.specs.declared.answer.Answer.{Answer}
 use Rattle.psci_ffi.specs.declared.answer.SomeFrame.{SomeFrame}
+use Rattle.psci_ffi.specs.declared.asked.GivenAsked.{GivenAsked}
+use Rattle.psci_ffi.specs.declared.naming.Naming.{Naming}
 use Rattle.psci_ffi.specs.Codes.{cause_said, no_cause, no_firmware, refusal}
+use Rattle.psci_ffi.specs.Namings.{PlaceValue, asked_in, board_of, machine_of, regs_in}
+use Rattle.psci_platform.specs.declared.asked.Asked.{Asked}
+use Rattle.psci_platform.specs.declared.asked.Asked.TheVariants.{Nothing, States, Reset}
 use Rattle.psci_status.specs.Polled.{IsNext, PolledView}
 use Rattle.psci_ffi.specs.Slot.{Kept}
 
@@ -37,10 +42,34 @@ abbrev pub frame_shown : Option MessageValue → SomeFrame
 frame_shown None = no_frame
 frame_shown (Some m) = record { some = true; bytes = frame_bytes (Message m) }
 
+-- no state and no reset
+abbrev pub nothing_asked : GivenAsked
+nothing_asked = record { what = 0; states = 0 ∷ 0 ∷ 0 ∷ 0 ∷ []; reset = 0 }
+
+-- what is asked, as C sees it
+abbrev pub asked_shown : Asked → GivenAsked
+asked_shown Nothing = nothing_asked
+asked_shown (States states) = record { what = 1; states = states; reset = 0 }
+asked_shown (Reset reset) = record { what = 2; states = 0 ∷ 0 ∷ 0 ∷ 0 ∷ []; reset = reset }
+
+-- an answer beside which this is asked
+abbrev pub with_asked : GivenAsked → Answer → Answer
+with_asked asked answer = record answer { asked = asked }
+
+-- an answer of these numbers, beside which nothing is asked
+abbrev pub numbers : ℕ → ℤ → ℕ → ℕ → SomeFrame → Answer
+numbers what code address context frame = record {
+  what = what;
+  code = code;
+  address = address;
+  context = context;
+  message = frame;
+  asked = nothing_asked;
+}
+
 -- an answer without numbers
 abbrev pub plain : ℕ → SomeFrame → Answer
-plain what frame =
-    record { what = what; code = pos 0; address = 0; context = 0; message = frame }
+plain what frame = numbers what (pos 0) 0 0 frame
 
 -- a refusal
 abbrev pub refused : ℕ → Answer
@@ -48,11 +77,9 @@ refused what = plain what no_frame
 
 -- what the core does next, and what is sent
 abbrev pub act_shown : Act → SomeFrame → Answer
-act_shown (Return code) frame =
-    record { what = 0; code = code.0; address = 0; context = 0; message = frame }
+act_shown (Return code) frame = numbers 0 code.0 0 0 frame
 act_shown Stop frame = plain 1 frame
-act_shown (Enter address context) frame =
-    record { what = 2; code = pos 0; address = address; context = context; message = frame }
+act_shown (Enter address context) frame = numbers 2 (pos 0) address context frame
 act_shown Resume frame = plain 3 frame
 
 -- a reply to a call or an entry, as C sees it
@@ -69,22 +96,37 @@ start_called life number cause =
     option_map (λ c. calls.Enter (record { life = life; number = number; cause = c }))
     (cause_said cause)
 
+-- the registers that C gives one by one
+abbrev pub regs_given : ℕ → ℕ → ℕ → ℕ → Regs
+regs_given x0 x1 x2 x3 = record { x0 = x0; x1 = x1; x2 = x2; x3 = x3 }
+
+-- the call of the firmware in a place for registers in its words, in the mode that it is in
+abbrev pub called_in : Kept → Regs → FwCall
+called_in None regs = calls.Smc regs
+called_in (Some f) regs = calls.Smc (regs_in f.machine (seen f.polled.firmware).mode regs)
+
+-- what such a call asks beside: nothing where there is no firmware
+abbrev pub told_in : Kept → Regs → GivenAsked
+told_in None regs = nothing_asked
+told_in (Some f) regs = asked_shown (asked_in f.machine (seen f.polled.firmware).mode regs)
+
 -- what a core is answered that makes this call: there may be no such call, and no firmware
 abbrev pub answered : Kept → ℕ → Option FwCall → Answer
 answered k c None = refused no_cause
 answered None c (Some call) = refused no_firmware
-answered (Some f) c (Some call) = shown (answer f.firmware.board (seen f.firmware) c call)
+answered (Some f) c (Some call) =
+    shown (answer f.polled.firmware.board (seen f.polled.firmware) c call)
 
--- a call of these registers is answered this code, and changes nothing
-pub record IsTold (f : PolledView) (c : ℕ) (regs : Regs) (code : Code) : Type 0 where
-  pub answer : answer f.firmware.board (seen f.firmware) c (calls.Smc regs) ≡ Out (returns code)
-  pub next : IsNext f c (calls.Smc regs) f
+-- the firmware after a call, with the machine that it was opened with
+pub record IsNextIn (f : PlaceValue) (c : ℕ) (call : FwCall) (f' : PlaceValue) : Type 0 where
+  pub next : IsNext f.polled c call f'.polled
+  pub machine : f'.machine ≡ f.machine
 
 -- what a call leaves in a place
 abbrev pub IsAfter : Kept → ℕ → Option FwCall → Kept → Type 0
 IsAfter k c None left = left ≡ k
 IsAfter None c (Some call) left = left ≡ None
-IsAfter (Some f) c (Some call) left = IsSomeAnd left (IsNext f c call)
+IsAfter (Some f) c (Some call) left = IsSomeAnd left (IsNextIn f c call)
 
 -- a call with this reply leaves all as it was, if it is refused
 abbrev pub IsSameIf : FwReply → Kept → Kept → Type 0
@@ -97,7 +139,7 @@ abbrev pub IsSameRefused : Kept → ℕ → Option FwCall → Kept → Type 0
 IsSameRefused k c None left = left ≡ k
 IsSameRefused None c (Some call) left = left ≡ None
 IsSameRefused (Some f) c (Some call) left =
-    IsSameIf (answer f.firmware.board (seen f.firmware) c call) (Some f) left
+    IsSameIf (answer f.polled.firmware.board (seen f.polled.firmware) c call) (Some f) left
 
 -- Opening --------------------------------------------------------------------------------------
 
@@ -107,9 +149,19 @@ pub record IsNew (b : BoardValue) (f : PolledView) : Type 0 where
   pub values : seen f.firmware ≡ start_of_life b 0
   pub written : f.written ≡ replicate (cores b) (Off ∷ [])
 
--- the place has the new firmware of the board of this text
+-- the same in these words
+pub record IsNewIn (naming : Naming) (f : PlaceValue) : Type 0 where
+  pub fresh : IsNew (board_of naming) f.polled
+  pub machine : f.machine ≡ machine_of naming
+
+-- the same in the board's own words
+pub record IsNewOn (b : BoardValue) (f : PlaceValue) : Type 0 where
+  pub fresh : IsNew b f.polled
+  pub machine : f.machine ≡ None
+
+-- the place has the new firmware of the board of this text, in its own words
 abbrev pub IsOpened : Result BoardValue BoardFault → Kept → Type 0
-IsOpened (Ok board) left = IsSomeAnd left (IsNew board)
+IsOpened (Ok board) left = IsSomeAnd left (IsNewOn board)
 IsOpened (Err fault) left = ⊥
 
 -- What an opening with this end leaves in a place, by what is said of the board text. Memory is

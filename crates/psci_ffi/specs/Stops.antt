@@ -50,4 +50,4 @@ stop_sent (Some m) x0 = record {
 abbrev pub stop_read : Kept → ℕ → ℕ → Stopping
 stop_read None core x0 = no_stop
 stop_read (Some f) core x0 =
-    stop_sent (message_shown f.firmware.board (seen f.firmware) core) x0
+    stop_sent (message_shown f.polled.firmware.board (seen f.polled.firmware) core) x0

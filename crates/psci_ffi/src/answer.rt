@@ -3,13 +3,14 @@
 ghost use Rattle.std.specs.Prelude.{◌≡◌, option_map};
 ghost use Rattle.psci_fw.specs.Reactions.{reply_in};
 ghost use Rattle.psci_fw.specs.Seen.{seen};
-ghost use Rattle.psci_fw_spec.specs.declared.outcome.Act.TheVariants.{Return};
 ghost use Rattle.psci_messages.specs.Message.{MessageValue};
-ghost use Rattle.psci_ffi.specs.Shown.{act_shown, frame_shown, no_frame, plain, refused, shown};
+ghost use Rattle.psci_ffi.specs.Shown.{act_shown, frame_shown, no_frame, plain};
+ghost use Rattle.psci_ffi.specs.Shown.{refused, shown, with_asked};
 
+use crate::asked::{GivenAsked, nothing_asked};
 use crate::codes::refusal;
 use crate::held::Held;
-use psci_fw::{Act, Code, FwFault, Reaction};
+use psci_fw::{Act, FwFault, Reaction};
 use psci_link::{FRAME_LEN, Frame, encode, write_message};
 use psci_messages::Message;
 use std::mem::size_of;
@@ -39,12 +40,14 @@ pub struct Answer {
     pub context: u64,
     /// The message that is sent to the power controller.
     pub message: SomeFrame,
+    /// Which of a machine's states or resets the call names.
+    pub asked: GivenAsked,
 }
 
 // The sizes that psci.h gives these.
 const _: () = prove!(size_of::<SomeFrame>() == 54);
 
-const _: () = prove!(size_of::<Answer>() == 80);
+const _: () = prove!(size_of::<Answer>() == 96);
 
 /// No frame.
 pub fn no_frame() -> SomeFrame
@@ -76,20 +79,6 @@ pub fn refused(what: u32) -> Answer
     plain(what, no_frame())
 }
 
-/// The caller goes on with this code, and nothing is sent.
-#[inline(always)]
-pub fn returned(code: Code) -> Answer
-    ensures { result ≡ act_shown (Return code) no_frame }
-{
-    Answer {
-        what: 0,
-        code: code.0,
-        address: 0,
-        context: 0,
-        message: no_frame(),
-    }
-}
-
 /// An answer without numbers.
 fn plain(what: u32, message: SomeFrame) -> Answer
     ensures { result ≡ plain what message }
@@ -100,28 +89,32 @@ fn plain(what: u32, message: SomeFrame) -> Answer
         address: 0,
         context: 0,
         message,
+        asked: nothing_asked(),
     }
 }
 
-/// Writes a reply, as C sees it. The message is read where it stands. Compiled into its callers, so
-/// that a reply has no room of its own.
+/// Writes a reply, as C sees it, beside what the call asks. The message is read where it stands.
+/// Compiled into its callers, so that a reply has no room of its own.
 #[inline(always)]
 pub fn write_answer(answer: &mut Answer, held: &Held, made: Result<Reaction, FwFault>)
-    ensures { answer.new
-        ≡ shown (reply_in held.now.firmware.board (seen held.now.firmware) made) }
+    ensures { answer.new ≡ with_asked answer.old.asked
+        (shown (reply_in held.now.polled.firmware.board (seen held.now.polled.firmware) made)) }
 {
     match made {
         Ok(reaction) => {
             write_act(answer, reaction.act);
             write_frame(&mut answer.message, held.sent(reaction.slot));
         }
-        Err(fault) => *answer = refused(refusal(fault)),
+        Err(fault) => {
+            write_numbers(answer, refusal(fault), 0, 0, 0);
+            answer.message = no_frame();
+        }
     }
 }
 
 /// Writes what the core does next.
 fn write_act(answer: &mut Answer, act: Act)
-    ensures { answer.new ≡ act_shown act answer.old.message }
+    ensures { answer.new ≡ with_asked answer.old.asked (act_shown act answer.old.message) }
 {
     match act {
         Act::Return(code) => write_numbers(answer, 0, code.0, 0, 0),
@@ -139,6 +132,7 @@ fn write_numbers(answer: &mut Answer, what: u32, code: i32, address: u64, contex
       address = address;
       context = context;
       message = answer.old.message;
+      asked = answer.old.asked;
     } }
 {
     answer.what = what;

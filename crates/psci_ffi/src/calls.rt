@@ -1,18 +1,21 @@
 //! The calls of the cores, and the acknowledgements of the power controller.
 
 ghost use Rattle.std.specs.Prelude.{◌≡◌, None, Some};
-ghost use Rattle.psci_fw_spec.specs.declared.call.FwCall.TheVariants.{Smc};
 ghost use Rattle.psci_messages.specs.Message.{AckValue, MessageValue};
 ghost use Rattle.psci_ffi.specs.Frames.{IsTakenIn};
-ghost use Rattle.psci_ffi.specs.Shown.{IsAfter, IsSameRefused, answered, start_called};
+ghost use Rattle.psci_ffi.specs.Shown.{IsAfter, IsSameRefused, answered, called_in, regs_given};
+ghost use Rattle.psci_ffi.specs.Shown.{start_called, told_in, with_asked};
 
 use crate::answer::{Answer, refused, write_answer};
+use crate::asked::nothing_asked;
 use crate::codes::{NO_CAUSE, NO_FIRMWARE, cause_of};
 use crate::place::Place;
 use psci_board::Core;
 use psci_fw::{Regs, Start};
 
-/// A secure monitor call of a core with these registers.
+/// A secure monitor call of a core with these registers, in the words that the place was opened
+/// with: those of the board, or those of a machine. Beside the answer it is told which of the
+/// machine's states, or which reset of the vendor, the caller asked for.
 #[unsafe(no_mangle)]
 pub extern "C" fn psci_smc(
     place: &mut Place,
@@ -23,19 +26,21 @@ pub extern "C" fn psci_smc(
     x3: u64,
     answer: &mut Answer,
 )
-    ensures answer { let call = Some (Smc (record { x0 = x0; x1 = x1; x2 = x2; x3 = x3 })) in
-        answer.new ≡ answered place.old.slot.kept core call }
-    ensures after { let call = Some (Smc (record { x0 = x0; x1 = x1; x2 = x2; x3 = x3 })) in
-        IsAfter place.old.slot.kept core call place.new.slot.kept }
-    ensures refused { let call = Some (Smc (record { x0 = x0; x1 = x1; x2 = x2; x3 = x3 })) in
-        IsSameRefused place.old.slot.kept core call place.new.slot.kept }
+    ensures answer { let regs = regs_given x0 x1 x2 x3 in
+        answer.new ≡ with_asked (told_in place.old.slot.kept regs)
+        (answered place.old.slot.kept core (Some (called_in place.old.slot.kept regs))) }
+    ensures after { let call = called_in place.old.slot.kept (regs_given x0 x1 x2 x3) in
+        IsAfter place.old.slot.kept core (Some call) place.new.slot.kept }
+    ensures refused { let call = called_in place.old.slot.kept (regs_given x0 x1 x2 x3) in
+        IsSameRefused place.old.slot.kept core (Some call) place.new.slot.kept }
 {
     if !place.full {
         *answer = refused(NO_FIRMWARE);
         return;
     }
     let held = place.slot.held();
-    let made = held.smc(Core { number: core }, Regs { x0, x1, x2, x3 });
+    let regs = held.called(Regs { x0, x1, x2, x3 }, &mut answer.asked);
+    let made = held.smc(Core { number: core }, regs);
     write_answer(answer, held, made);
 }
 
@@ -72,6 +77,7 @@ pub extern "C" fn psci_enter(
         cause,
     };
     let made = held.enter(Core { number: core }, start);
+    answer.asked = nothing_asked();
     write_answer(answer, held, made);
 }
 

@@ -26,7 +26,7 @@ pub extern "C" fn psci_decode(place: &mut Place, frame: &[u8], fields: &mut Fiel
 
 /// The same of a firmware.
 fn read(held: &Held, bytes: &[u8], fields: &mut Fields) -> u32
-    ensures { IsDecoded held.now bytes.now result fields.old fields.new }
+    ensures { IsDecoded held.now.polled bytes.now result fields.old fields.new }
 {
     match decode(bytes, held.board()) {
         Err(fault) => frame_code(fault),

@@ -1,17 +1,20 @@
-//! What is in a place: a firmware with its status words, and the board that frames are read on.
+//! What is in a place: a firmware with its status words, and what its calls name things by.
 
+use crate::asked::{GivenAsked, asked_shown, nothing_asked};
 use crate::common::{Common, share};
+use crate::naming::Naming;
 use psci_board::{Board, Core, Memory, Node};
-use psci_fw::{Cause, Code, FwFault, Hw, Reaction, Regs, Start, Status, SuspendMode, Taken};
+use psci_fw::{FwFault, Hw, Reaction, Regs, Start, Status, Taken};
 use psci_link::{Heading, ack_in, heading_on};
 use psci_messages::{Ack, Message};
+use psci_platform::Platform;
 use psci_status::{PolledFirmware, Reader};
 use std::alloc::Global;
 use std::marker::Model;
 use std::sync::Arc;
 
 /// A firmware, and what it shares with those who poll. Contracts see the firmware, the table of its
-/// status words and what was written of each core.
+/// status words, what was written of each core, and the machine, if there is one.
 #[derive(Drop)]
 pub struct Held {
     pub(crate) common: Arc<Common>,
@@ -21,19 +24,22 @@ pub struct Held {
 impl Model for Held {
     ghost use Rattle.std.specs.Prelude.{◌≡◌};
     ghost use Rattle.std.specs.Arc.{arc_value};
-    ghost use Rattle.psci_status.specs.Polled.{PolledView};
     ghost use Rattle.psci_status.specs.Seats.{table};
+    ghost use Rattle.psci_ffi.specs.Namings.{PlaceValue, board_of, machine_of};
 
-    ghost Value = { PolledView };
+    ghost Value = { PlaceValue };
 
-    ghost view = { λ h. h.polled };
+    ghost view = { λ h. record {
+      polled = h.polled;
+      machine = machine_of (arc_value h.common).naming;
+    } };
 
-    ghost invariant = { λ h. ((arc_value h.common).board ≡ h.polled.firmware.board)
+    ghost invariant = { λ h.
+        (board_of (arc_value h.common).naming ≡ h.polled.firmware.board)
         × (table (arc_value h.common).words ≡ h.polled.table) };
 }
 
-ghost use Rattle.std.specs.Prelude.{◌≡◌, ℕ, IfOk, IfSome, OnErr, option_map};
-ghost use Rattle.psci_fw.specs.Asking.{code_told};
+ghost use Rattle.std.specs.Prelude.{◌≡◌, ℕ, IfOk, OnErr, option_map};
 ghost use Rattle.psci_fw.specs.Reactions.{reply_in, sent_from};
 ghost use Rattle.psci_fw.specs.Seen.{hw_shown, life_shown, seen, status_shown};
 ghost use Rattle.psci_fw_spec.specs.Answer.{answer};
@@ -42,24 +48,24 @@ ghost use Rattle.psci_fw_spec.specs.declared.call.FwCall.TheVariants as calls;
 ghost use Rattle.psci_fw_spec.specs.declared.reply.FwReply.TheVariants as replies;
 ghost use Rattle.psci_fw_state.specs.Seen.{message_shown};
 ghost use Rattle.psci_messages.specs.Message.{AckValue, MessageValue};
-ghost use Rattle.psci_status.specs.Polled.{IsNext};
 ghost use Rattle.psci_status.specs.Seats.{table, table_of_reader, seen as seen_by};
 ghost use Rattle.psci_status.specs.Lists.{newest};
 ghost use Rattle.psci_ffi.specs.Frames.{IsAcknowledged, IsFaulty, IsMisplaced};
-ghost use Rattle.psci_ffi.specs.Shown.{IsNew, IsTold};
+ghost use Rattle.psci_ffi.specs.Namings.{asked_in, machine_of, regs_in};
+ghost use Rattle.psci_ffi.specs.Shown.{IsNewIn, IsNextIn, asked_shown};
 ghost use Rattle.psci_ffi.specs.Watching.{IsWatchOf};
 
 use crate::codes::{NOT_AN_ACK, frame_code, taken_code};
 use crate::watch::Watch;
 
 impl Held {
-    /// A new firmware of this board.
+    /// A new firmware of this board, in these words.
     #[inline(never)]
-    pub fn new(alloc: Global, board: Box<Board>) -> Result<Held, Memory>
-        ensures { IfOk result (λ f. IsNew board.value f) }
+    pub fn new(alloc: Global, naming: Naming) -> Result<Held, Memory>
+        ensures { IfOk result (IsNewIn naming) }
     {
-        let (polled, words) = PolledFirmware::new(alloc, &board)?;
-        let common = share(alloc, board, words)?;
+        let (polled, words) = PolledFirmware::new(alloc, naming.board())?;
+        let common = share(alloc, naming, words)?;
         Ok(Held { common, polled })
     }
 
@@ -67,7 +73,7 @@ impl Held {
     /// firmware is let go.
     #[inline(never)]
     pub fn alone(self) -> PolledFirmware
-        ensures { result ≡ self }
+        ensures { result ≡ self.polled }
     {
         let Held { common, polled } = self;
         drop(common);
@@ -77,37 +83,52 @@ impl Held {
     /// The same of one in memory of its own.
     #[inline(never)]
     pub fn unboxed(held: Box<Held>) -> PolledFirmware
-        ensures { result ≡ held.value }
+        ensures { result ≡ held.value.polled }
     {
         Box::into_inner(held).alone()
     }
 
     /// `Firmware::smc_in_slot`.
     pub fn smc(&mut self, core: Core, regs: Regs) -> Result<Reaction, FwFault>
-        ensures answer { reply_in self.new.firmware.board (seen self.new.firmware) result
-            ≡ answer self.old.firmware.board (seen self.old.firmware) core.number (calls.Smc regs) }
-        ensures next { IsNext self.old core.number (calls.Smc regs) self.new }
+        ensures answer { let old = self.old.polled.firmware in
+            let new = self.new.polled.firmware in
+            reply_in new.board (seen new) result
+            ≡ answer old.board (seen old) core.number (calls.Smc regs) }
+        ensures next { IsNextIn self.old core.number (calls.Smc regs) self.new }
         ensures refused { OnErr result (self.new ≡ self.old) }
     {
         let Held { common, polled } = self;
         polled.smc_in_slot(&common.words, core, regs)
     }
 
-    /// `Firmware::code_at_once`.
+    /// The registers of the firmware's call for one in the words of the place. What is asked beside
+    /// is written.
     #[inline(always)]
-    pub fn code_at_once(&self, core: Core, regs: Regs) -> Option<Code>
-        ensures code { result ≡ code_told self.now.firmware core.number regs }
-        ensures told { IfSome result (IsTold self.now core.number regs) }
+    pub fn called(&self, regs: Regs, asked: &mut GivenAsked) -> Regs
+        ensures regs { result ≡ regs_in self.now.machine (seen self.now.polled.firmware).mode regs }
+        ensures asked { asked.new
+            ≡ asked_shown (asked_in self.now.machine (seen self.now.polled.firmware).mode regs) }
     {
-        self.polled.code_at_once(core, regs)
+        match self.machine() {
+            None => {
+                *asked = nothing_asked();
+                regs
+            }
+            Some(machine) => {
+                let call = machine.translate(self.polled.firmware().mode(), regs);
+                *asked = asked_shown(call.asked);
+                call.regs
+            }
+        }
     }
 
     /// `Firmware::enter_in_slot`.
     pub fn enter(&mut self, core: Core, start: Start) -> Result<Reaction, FwFault>
-        ensures answer { reply_in self.new.firmware.board (seen self.new.firmware) result
-            ≡ answer self.old.firmware.board (seen self.old.firmware) core.number
-            (calls.Enter start) }
-        ensures next { IsNext self.old core.number (calls.Enter start) self.new }
+        ensures answer { let old = self.old.polled.firmware in
+            let new = self.new.polled.firmware in
+            reply_in new.board (seen new) result
+            ≡ answer old.board (seen old) core.number (calls.Enter start) }
+        ensures next { IsNextIn self.old core.number (calls.Enter start) self.new }
         ensures refused { OnErr result (self.new ≡ self.old) }
     {
         let Held { common, polled } = self;
@@ -117,7 +138,7 @@ impl Held {
     /// What was just sent: the message in this slot, where it stands.
     pub fn sent(&self, slot: Option<u16>) -> Option<&Message>
         ensures { option_map (λ message. message.now) result
-            ≡ sent_from self.now.firmware.board (seen self.now.firmware) slot }
+            ≡ sent_from self.now.polled.firmware.board (seen self.now.polled.firmware) slot }
     {
         match slot {
             Some(number) => self.polled.firmware().outstanding(number),
@@ -128,12 +149,14 @@ impl Held {
     /// `Firmware::take` of the acknowledgement that these bytes are, and the code of what became
     /// of it, or of why they are none.
     pub fn take(&mut self, bytes: &[u8]) -> u32
-        ensures fault { IsFaulty bytes.now result self.old self.new }
+        ensures fault { IsFaulty bytes.now result self.old.polled self.new.polled }
         ensures message { (m : MessageValue)
-            → IsMisplaced m bytes.now result self.old self.new }
-        ensures ack { (a : AckValue) → IsAcknowledged a bytes.now result self.old self.new }
+            → IsMisplaced m bytes.now result self.old.polled self.new.polled }
+        ensures ack { (a : AckValue)
+            → IsAcknowledged a bytes.now result self.old.polled self.new.polled }
+        ensures machine { self.new.machine ≡ self.old.machine }
     {
-        match heading_on(bytes, &self.common.board) {
+        match heading_on(bytes, self.board()) {
             Err(fault) => frame_code(fault),
             Ok(Heading::Message(_)) => NOT_AN_ACK,
             Ok(Heading::Ack(kind, stale)) => {
@@ -144,9 +167,9 @@ impl Held {
 
     /// `Firmware::take`.
     fn take_ack(&mut self, ack: Ack) -> Taken
-        ensures answer { (c : ℕ) → replies.Taken result ≡ answer self.old.firmware.board
-            (seen self.old.firmware) c (calls.Take ack) }
-        ensures next { (c : ℕ) → IsNext self.old c (calls.Take ack) self.new }
+        ensures answer { (c : ℕ) → replies.Taken result ≡ answer self.old.polled.firmware.board
+            (seen self.old.polled.firmware) c (calls.Take ack) }
+        ensures next { (c : ℕ) → IsNextIn self.old c (calls.Take ack) self.new }
     {
         let Held { common, polled } = self;
         polled.take(&common.words, ack)
@@ -154,14 +177,14 @@ impl Held {
 
     /// The board.
     pub fn board(&self) -> &Board
-        ensures { result.now ≡ self.now.firmware.board }
+        ensures { result.now ≡ self.now.polled.firmware.board }
     {
-        &self.common.board
+        self.common.naming.board()
     }
 
     /// `Firmware::status`.
     pub fn status(&self, node: Node) -> Option<Status>
-        ensures { result ≡ status_shown self.now.firmware node }
+        ensures { result ≡ status_shown self.now.polled.firmware node }
     {
         self.polled.firmware().status(node)
     }
@@ -169,14 +192,15 @@ impl Held {
     /// `Firmware::outstanding`, where it stands.
     pub fn message(&self, number: u16) -> Option<&Message>
         ensures { option_map (λ message. message.now) result
-            ≡ message_shown self.now.firmware.board (seen self.now.firmware) number }
+            ≡ message_shown self.now.polled.firmware.board (seen self.now.polled.firmware) number }
     {
         self.polled.firmware().outstanding(number)
     }
 
     /// The same, copied.
     pub fn outstanding(&self, number: u16) -> Option<Message>
-        ensures { result ≡ message_shown self.now.firmware.board (seen self.now.firmware) number }
+        ensures { result ≡ message_shown self.now.polled.firmware.board
+            (seen self.now.polled.firmware) number }
     {
         self.polled
             .firmware()
@@ -186,51 +210,52 @@ impl Held {
 
     /// `Firmware::granted`.
     pub fn granted(&self, node: Node) -> u8
-        ensures { result ≡ (seen self.now.firmware).granted node.level node.place }
+        ensures { result ≡ (seen self.now.polled.firmware).granted node.level node.place }
     {
         self.polled.firmware().granted(node)
     }
 
     /// `Firmware::hw`.
     pub fn hw(&self, node: Node) -> Option<Hw>
-        ensures { result ≡ hw_shown self.now.firmware node }
+        ensures { result ≡ hw_shown self.now.polled.firmware node }
     {
         self.polled.firmware().hw(node)
     }
 
     /// `Firmware::known`.
     pub fn known(&self, core: Core) -> u32
-        ensures { result ≡ (seen self.now.firmware).known core.number }
+        ensures { result ≡ (seen self.now.polled.firmware).known core.number }
     {
         self.polled.firmware().known(core)
     }
 
     /// `Firmware::running`.
     pub fn running(&self, core: Core) -> bool
-        ensures { result ≡ is_running ((seen self.now.firmware).phase core.number) }
+        ensures { result ≡ is_running ((seen self.now.polled.firmware).phase core.number) }
     {
         self.polled.firmware().running(core)
     }
 
     /// `Firmware::life`.
     pub fn life(&self) -> Option<u32>
-        ensures { result ≡ life_shown (seen self.now.firmware).life }
+        ensures { result ≡ life_shown (seen self.now.polled.firmware).life }
     {
         self.polled.firmware().life()
     }
 
     /// `Firmware::halting`.
     pub fn halting(&self) -> bool
-        ensures { result ≡ (seen self.now.firmware).halting }
+        ensures { result ≡ (seen self.now.polled.firmware).halting }
     {
         self.polled.firmware().halting()
     }
 
-    /// `Firmware::mode`.
-    pub fn mode(&self) -> SuspendMode
-        ensures { result ≡ (seen self.now.firmware).mode }
+    /// The machine, if the place was opened with one.
+    #[inline(always)]
+    pub fn machine(&self) -> Option<&Platform>
+        ensures { option_map (λ machine. machine.now) result ≡ self.now.machine }
     {
-        self.polled.firmware().mode()
+        self.common.naming.machine()
     }
 
     /// One who polls. It has seen the last status of each core.

@@ -4,12 +4,14 @@
 //! all zero is empty.
 //! - A *poller* is such a place for one who polls: it reads status words without the firmware's
 //! lock.
-//! - A *machine* is such a place for what the cores, power states and functions are called there.
+//! - A *machine* has names of its own for its cores, power states and functions: a place is opened
+//! with one, or has the board's words.
 //! - An *answer* is what came of a call, as C sees it, with the frame of the message that is sent.
 //! - A *refusal* is an answer from 16 on: the caller's mistake has a number, and nothing changed.
 #![tactic(auto)]
 
 mod answer;
+mod asked;
 mod board_readers;
 mod calls;
 mod codes;
@@ -29,18 +31,12 @@ mod given;
 mod given_build;
 mod given_fault;
 mod held;
-mod held_calls;
 mod lending;
-mod machine_calls;
 mod machine_fault;
 mod machine_given;
-mod machine_lending;
-mod machine_named;
 mod machine_names;
 mod machine_opening;
-mod machine_place;
-mod machine_slot;
-mod machine_told;
+mod naming;
 mod opening;
 mod parts;
 mod place;

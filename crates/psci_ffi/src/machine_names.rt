@@ -1,62 +1,93 @@
 //! A machine's names for cores and domains.
 
 ghost use Rattle.std.specs.Prelude.{◌≡◌};
-ghost use Rattle.psci_ffi.specs.MachineCalls.{core_read, mpidr_read, place_read};
+ghost use Rattle.psci_ffi.specs.Readers.{core_in, core_read, mpidr_in, mpidr_read, place_in};
+ghost use Rattle.psci_ffi.specs.Readers.{place_read};
 
-use crate::machine_place::MachinePlace;
+use crate::held::Held;
+use crate::place::Place;
 use psci_board::{Core, Node};
 
-/// The number of the core with this MPIDR, as the firmware's calls have it; 0xffff where the
-/// machine has none, and where the place is empty.
+/// The number of no core.
+const NO_CORE_OF: u16 = 0xffff;
+
+/// The MPIDR of no core.
+const NO_MPIDR: u64 = u64::MAX;
+
+/// The number of the core with this MPIDR, as the calls have it; 0xffff where the machine has none,
+/// and where the place was opened without a machine or is empty.
 #[unsafe(no_mangle)]
-pub extern "C" fn psci_core_of(machine: &mut MachinePlace, mpidr: u64) -> u16
-    ensures core { result ≡ core_read machine.old.slot.kept mpidr }
-    ensures same { machine.new.slot.kept ≡ machine.old.slot.kept }
+pub extern "C" fn psci_core_of(place: &mut Place, mpidr: u64) -> u16
+    ensures core { result ≡ core_read place.old.slot.kept mpidr }
+    ensures same { place.new.slot.kept ≡ place.old.slot.kept }
 {
-    if !machine.full {
+    if !place.full {
         return NO_CORE_OF;
     }
-    match machine.slot.machine().core(mpidr) {
+    core_of(place.slot.held(), mpidr)
+}
+
+/// The MPIDR of a core that a message names; all ones where the machine has no such core, and where
+/// the place was opened without a machine or is empty.
+#[unsafe(no_mangle)]
+pub extern "C" fn psci_mpidr_of(place: &mut Place, core: u16) -> u64
+    ensures mpidr { result ≡ mpidr_read place.old.slot.kept core }
+    ensures same { place.new.slot.kept ≡ place.old.slot.kept }
+{
+    if !place.full {
+        return NO_MPIDR;
+    }
+    mpidr_of(place.slot.held(), Core { number: core })
+}
+
+/// Which core (level 0) or power domain of the tree, in its order from left to right, one of the
+/// firmware is, and which of the firmware's one of the tree is. Where the first core boots, each is
+/// the same, and so without a machine.
+#[unsafe(no_mangle)]
+pub extern "C" fn psci_place_of(place: &mut Place, level: u32, index: u16) -> u16
+    ensures place { result
+        ≡ place_read place.old.slot.kept (record { level = level; place = index }) }
+    ensures same { place.new.slot.kept ≡ place.old.slot.kept }
+{
+    if !place.full {
+        return index;
+    }
+    let node = Node {
+        level,
+        place: index,
+    };
+    place_of(place.slot.held(), node)
+}
+
+/// The number of the core with this MPIDR.
+fn core_of(held: &Held, mpidr: u64) -> u16
+    ensures { result ≡ core_in held.now.machine mpidr }
+{
+    let Some(machine) = held.machine() else {
+        return NO_CORE_OF;
+    };
+    match machine.core(mpidr) {
         Some(core) => core.number,
         None => NO_CORE_OF,
     }
 }
 
-/// The number of no core.
-const NO_CORE_OF: u16 = 0xffff;
-
-/// The MPIDR of a core that a message names; all ones where the machine has no such core, and where
-/// the place is empty.
-#[unsafe(no_mangle)]
-pub extern "C" fn psci_mpidr_of(machine: &mut MachinePlace, core: u16) -> u64
-    ensures mpidr { result ≡ mpidr_read machine.old.slot.kept core }
-    ensures same { machine.new.slot.kept ≡ machine.old.slot.kept }
+/// The MPIDR of a core.
+fn mpidr_of(held: &Held, core: Core) -> u64
+    ensures { result ≡ mpidr_in held.now.machine core.number }
 {
-    if !machine.full {
+    let Some(machine) = held.machine() else {
         return NO_MPIDR;
-    }
-    let mpidr = machine.slot.machine().mpidr(Core { number: core });
-    mpidr.unwrap_or(NO_MPIDR)
+    };
+    machine.mpidr(core).unwrap_or(NO_MPIDR)
 }
 
-/// The MPIDR of no core.
-const NO_MPIDR: u64 = u64::MAX;
-
-/// Which core (level 0) or power domain of the tree, in its order from left to right, one of the
-/// firmware is, and which of the firmware's one of the tree is. Where the first core boots, and in
-/// an empty place, each is the same.
-#[unsafe(no_mangle)]
-pub extern "C" fn psci_place_of(machine: &mut MachinePlace, level: u32, index: u16) -> u16
-    ensures place { result
-        ≡ place_read machine.old.slot.kept (record { level = level; place = index }) }
-    ensures same { machine.new.slot.kept ≡ machine.old.slot.kept }
+/// The place of a node.
+fn place_of(held: &Held, node: Node) -> u16
+    ensures { result ≡ place_in held.now.machine node }
 {
-    if !machine.full {
-        return index;
-    }
-    let node = machine.slot.machine().place(Node {
-        level,
-        place: index,
-    });
-    node.place
+    let Some(machine) = held.machine() else {
+        return node.place;
+    };
+    machine.place(node).place
 }

@@ -1,30 +1,31 @@
-//! Making what a machine calls its cores, power states and functions, and letting it go.
+//! Making a firmware with the machine whose words its calls are in.
 
-ghost use Rattle.std.specs.Prelude.{◌≡◌, None, IfErr, IfOk, IsSomeAnd, map};
+ghost use Rattle.std.specs.Prelude.{◌≡◌, IfErr, IfOk, IsSomeAnd, map};
 ghost use Rattle.psci_ffi.specs.Given.{board_of_given};
-ghost use Rattle.psci_ffi.specs.MachineCalls.{IsMade, OpensMachine};
+ghost use Rattle.psci_ffi.specs.MachineOpening.{IsMade, IsNewWith, OpensMachine};
 ghost use Rattle.psci_ffi.specs.MachineCodes.{machine_said};
 ghost use Rattle.psci_ffi.specs.Machines.{machine_given, row_given};
-ghost use Rattle.psci_platform.specs.Platforms.{IsInOrder};
 
 use crate::given::GivenBoard;
 use crate::given_build::read_given;
 use crate::machine_fault::{MachineFault, machine_code};
 use crate::machine_given::{GivenMachine, GivenRow};
-use crate::machine_place::MachinePlace;
+use crate::naming::Naming;
+use crate::opening::renew;
+use crate::place::Place;
 use psci_board::{BoardFault, Memory};
 use psci_platform::{Description, Platform, Row};
 use std::alloc::Global;
 
-/// Puts what a machine calls its cores, power states and functions into the place, and frees what
-/// was there: 0. The board is that of its firmware, and the boot core has this MPIDR. Else the
-/// number of the first fault, and nothing changes: the board's first; 64 where more is counted than
-/// there is room for, or another function is there; of the description 64 and the number that its
-/// fault has in a machine text; or 8 where memory lacks.
+/// Puts a new firmware of this board into the place, in the words of this machine, whose boot core
+/// has this MPIDR, and frees the one that was there: 0. Else the number of the first fault, and
+/// nothing changes: the board's first; 64 where more is counted than there is room for, or another
+/// function is there; of the description 64 and the number that its fault has in a machine text; or
+/// 8 where memory lacks.
 #[unsafe(no_mangle)]
 pub extern "C" fn psci_open_machine(
     alloc: Global,
-    place: &mut MachinePlace,
+    place: &mut Place,
     board: &GivenBoard,
     machine: &GivenMachine,
     boot: u64,
@@ -35,19 +36,11 @@ pub extern "C" fn psci_open_machine(
     machine_code(open(alloc, place, board, machine, boot))
 }
 
-/// Frees the machine in the place, which is empty then.
-#[unsafe(no_mangle)]
-pub extern "C" fn psci_close_machine(alloc: Global, place: &mut MachinePlace)
-    ensures { place.new.slot.kept ≡ None }
-{
-    drop(place.take(alloc));
-}
-
-/// Puts a machine into the place, if the structs are one's and there is memory.
+/// Puts a new firmware into the place, if the structs are a machine's and there is memory.
 #[tactic(auto, using(crate::proofs::MachineMaking::opening))]
 fn open(
     alloc: Global,
-    place: &mut MachinePlace,
+    place: &mut Place,
     board: &GivenBoard,
     given: &GivenMachine,
     boot: u64,
@@ -56,21 +49,19 @@ fn open(
         place.new.slot.kept }
 {
     let machine = make(alloc, board, given, boot)?;
-    match renew(alloc, place, machine) {
+    match put(alloc, place, machine) {
         Ok(()) => Ok(()),
         Err(Memory) => Err(MachineFault::Board(BoardFault::Memory)),
     }
 }
 
-/// Puts this machine into the place, if there is memory.
-fn renew(alloc: Global, place: &mut MachinePlace, machine: Platform) -> Result<(), Memory>
-    ensures done { IfOk result (λ _. IsSomeAnd place.new.slot.kept (IsInOrder machine)) }
+/// Puts a new firmware in the words of this machine into the place, if there is memory.
+fn put(alloc: Global, place: &mut Place, machine: Platform) -> Result<(), Memory>
+    ensures done { IfOk result (λ _. IsSomeAnd place.new.slot.kept (IsNewWith machine)) }
     ensures same { IfErr result (λ _. place.new.slot.kept ≡ place.old.slot.kept) }
 {
-    let boxed = Box::new(alloc, machine.in_order(alloc)?)?;
-    drop(place.take(alloc));
-    place.put(boxed);
-    Ok(())
+    let machine = Box::new(alloc, machine.in_order(alloc)?)?;
+    renew(alloc, place, Naming::Machine(machine))
 }
 
 /// The machine, or the first fault.

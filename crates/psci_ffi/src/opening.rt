@@ -4,12 +4,13 @@ ghost use Rattle.std.specs.Prelude.{◌≡◌, Err, None, Ok, IfErr, IfOk, IsSom
 ghost use Rattle.psci_board.specs.Verdict.{Answers, board_of};
 ghost use Rattle.psci_ffi.specs.Codes.{opened_said};
 ghost use Rattle.psci_ffi.specs.Given.{board_of_given};
-ghost use Rattle.psci_ffi.specs.Shown.{IsNew, Opens};
+ghost use Rattle.psci_ffi.specs.Shown.{IsNewIn, Opens};
 
 use crate::codes::opened_code;
 use crate::given::GivenBoard;
 use crate::given_build::kept_given;
 use crate::held::Held;
+use crate::naming::Naming;
 use crate::place::Place;
 use psci_board::{Board, BoardFault, Memory};
 use std::alloc::Global;
@@ -51,7 +52,7 @@ fn open(alloc: Global, place: &mut Place, text: &[u8]) -> Result<(), BoardFault>
     ensures { Opens result (board_of text.now) place.old.slot.kept place.new.slot.kept }
 {
     let board = read(alloc, text)?;
-    Ok(renew(alloc, place, board)?)
+    Ok(renew(alloc, place, Naming::Board(board))?)
 }
 
 /// The same, if the struct is a board's.
@@ -59,7 +60,7 @@ fn open_board(alloc: Global, place: &mut Place, given: &GivenBoard) -> Result<()
     ensures { Opens result (board_of_given given.now) place.old.slot.kept place.new.slot.kept }
 {
     let board = kept_given(alloc, given)?;
-    Ok(renew(alloc, place, board)?)
+    Ok(renew(alloc, place, Naming::Board(board))?)
 }
 
 /// The board of a text. It has a frame of its own, which is gone from the stack when the firmware
@@ -73,12 +74,12 @@ pub fn read(alloc: Global, text: &[u8]) -> Result<Box<Board>, BoardFault>
     Ok(keep(alloc, board)?)
 }
 
-/// Puts a new firmware of this board into the place, if there is memory.
-fn renew(alloc: Global, place: &mut Place, board: Box<Board>) -> Result<(), Memory>
-    ensures done { IfOk result (λ _. IsSomeAnd place.new.slot.kept (IsNew board.value)) }
+/// Puts a new firmware in these words into the place, if there is memory.
+pub fn renew(alloc: Global, place: &mut Place, naming: Naming) -> Result<(), Memory>
+    ensures done { IfOk result (λ _. IsSomeAnd place.new.slot.kept (IsNewIn naming)) }
     ensures same { IfErr result (λ _. place.new.slot.kept ≡ place.old.slot.kept) }
 {
-    let held = Held::new(alloc, board)?;
+    let held = Held::new(alloc, naming)?;
     let boxed = boxed(alloc, held)?;
     empty(alloc, place);
     place.put(boxed);

@@ -36,9 +36,9 @@ pub extern "C" fn psci_close_poller(alloc: Global, poller: &mut Poller)
     drop(poller.take(alloc));
 }
 
-/// What AFFINITY_INFO answers for the core that the affinity word names, by one load of its status
-/// word: 0 ON, 1 OFF, 2 ON_PENDING, or -2 exactly where the word names no core; 16 where the poller
-/// is empty. No lock is taken.
+/// What AFFINITY_INFO answers for the core that the affinity word names, in the words that the
+/// place was opened with, by one load of its status word: 0 ON, 1 OFF, 2 ON_PENDING, or -2 exactly
+/// where the word names no core; 16 where the poller is empty. No lock is taken.
 #[unsafe(no_mangle)]
 pub extern "C" fn psci_poll(poller: &mut Poller, affinity: u64) -> i32
     ensures { HasPolledIn poller.old.slot.kept affinity result poller.new.slot.kept }

@@ -144,8 +144,8 @@ pub extern "C" fn psci_outstanding(place: &mut Place, number: u16, message: &mut
 
 /// The number of the status of a node, if the board has it.
 fn status_of(held: &Held, node: Node) -> u32
-    ensures { result ≡ node_said (has_node held.now.firmware.board node)
-        (status_code (status_shown held.now.firmware node)) }
+    ensures { result ≡ node_said (has_node held.now.polled.firmware.board node)
+        (status_code (status_shown held.now.polled.firmware node)) }
 {
     if node.place >= held.board().nodes(node.level) {
         return refusal(FwFault::NoCore);
@@ -155,8 +155,8 @@ fn status_of(held: &Held, node: Node) -> u32
 
 /// The granted depth of a domain, if the board has it.
 fn granted_of(held: &Held, node: Node) -> u32
-    ensures { result ≡ node_said (has_node held.now.firmware.board node)
-        ((seen held.now.firmware).granted node.level node.place) }
+    ensures { result ≡ node_said (has_node held.now.polled.firmware.board node)
+        ((seen held.now.polled.firmware).granted node.level node.place) }
 {
     if node.place >= held.board().nodes(node.level) {
         return refusal(FwFault::NoCore);
@@ -166,8 +166,8 @@ fn granted_of(held: &Held, node: Node) -> u32
 
 /// The number of the hardware state of a node, if the board has it.
 fn hw_of(held: &Held, node: Node) -> u32
-    ensures { result ≡ node_said (has_node held.now.firmware.board node)
-        (hw_number (hw_shown held.now.firmware node)) }
+    ensures { result ≡ node_said (has_node held.now.polled.firmware.board node)
+        (hw_number (hw_shown held.now.polled.firmware node)) }
 {
     if node.place >= held.board().nodes(node.level) {
         return refusal(FwFault::NoCore);

@@ -6,8 +6,8 @@ use psci_status::{Reader, affinity_core};
 use std::marker::Model;
 use std::sync::Arc;
 
-/// A reader of status words. Contracts see the board, the table of the words and what was seen of
-/// each core.
+/// A reader of status words. Contracts see the board, the machine, if there is one, the table of
+/// the words and what was seen of each core.
 #[derive(Drop)]
 pub struct Watch {
     common: Arc<Common>,
@@ -18,12 +18,14 @@ impl Model for Watch {
     ghost use Rattle.std.specs.Prelude.{◌≡◌};
     ghost use Rattle.std.specs.Arc.{arc_value};
     ghost use Rattle.psci_status.specs.Seats.{seen, table, table_of_reader};
+    ghost use Rattle.psci_ffi.specs.Namings.{board_of, machine_of};
     ghost use Rattle.psci_ffi.specs.Watching.{WatchView};
 
     ghost Value = { WatchView };
 
     ghost view = { λ w. record {
-      board = (arc_value w.common).board;
+      board = board_of (arc_value w.common).naming;
+      machine = machine_of (arc_value w.common).naming;
       table = table_of_reader w.reader;
       seen = seen w.reader;
     } };
@@ -34,6 +36,7 @@ impl Model for Watch {
 ghost use Rattle.std.specs.Prelude.{◌≡◌};
 ghost use Rattle.std.specs.Arc.{arc_value};
 ghost use Rattle.psci_status.specs.Seats.{seen, table, table_of_reader};
+ghost use Rattle.psci_ffi.specs.Namings.{board_of, machine_of};
 ghost use Rattle.psci_ffi.specs.Watching.{HasPolled};
 
 impl Watch {
@@ -41,7 +44,8 @@ impl Watch {
     pub fn of(common: Arc<Common>, reader: Reader) -> Watch
         requires { table_of_reader reader ≡ table (arc_value common).words }
         ensures { result ≡ record {
-          board = (arc_value common).board;
+          board = board_of (arc_value common).naming;
+          machine = machine_of (arc_value common).naming;
           table = table_of_reader reader;
           seen = seen reader;
         } }
@@ -54,6 +58,7 @@ impl Watch {
         ensures { HasPolled self.old affinity result self.new }
     {
         let Watch { common, reader } = self;
-        affinity_core(&common.words, &common.board, reader, affinity)
+        let word = common.naming.word(affinity);
+        affinity_core(&common.words, common.naming.board(), reader, word)
     }
 }

@@ -2,7 +2,7 @@
 use Rattle.std.specs.Prelude.{◌≡◌, ◌≤◌, ◌<◌, ◌+◌, ℕ, Bool, true, false, is_some}
 use Rattle.psci_board.specs.Board.{BoardValue, cores, height, up}
 use Rattle.psci_messages.specs.View.{domain_of, is_all_away, least_ask}
-use Rattle.psci_state.specs.Ask.{IsAsk, highest_of, is_deep}
+use Rattle.psci_state.specs.Ask.{IsAsk, highest_of, is_deep, power_down}
 use Rattle.psci_fw_spec.specs.declared.mode.SuspendMode.TheVariants.{Platform}
 use Rattle.psci_fw_spec.specs.declared.status.Status.{Status}
 use Rattle.psci_fw_spec.specs.declared.status.Status.TheVariants.{On, Off, Pending}
@@ -50,7 +50,7 @@ pub record AreAwake (b : BoardValue) (v : Values) : Type 0 where
   -- a domain with every core below off or going off is granted power-down
   pub away : (c level : ℕ) → c < cores b → level ≤ height b
       → is_all_away b (view b v) (domain_of b c level) ≡ true
-      → v.granted level (up b level c) ≡ 3
+      → v.granted level (up b level c) ≡ power_down
   -- in platform-coordinated mode a domain is granted the least ask of the cores below
   pub least : v.mode ≡ Platform → (c level : ℕ) → c < cores b → level ≤ height b
       → v.granted level (up b level c) ≡ least_ask b (view b v) (domain_of b c level)

@@ -1,6 +1,7 @@
 -- The start of a life.
 use Rattle.std.specs.Prelude.{ℕ, ◌==◌, ◌&&◌, Bool, not, false, if◌then◌else◌, Option, None, Some}
 use Rattle.psci_board.specs.Board.{BoardValue, has_node}
+use Rattle.psci_state.specs.Ask.{power_down, running}
 use Rattle.psci_fw_spec.specs.declared.mode.SuspendMode.TheVariants.{Platform}
 use Rattle.psci_fw_spec.specs.declared.opening.Opening.{Opening}
 use Rattle.psci_fw_spec.specs.declared.status.Status.{Status}
@@ -26,8 +27,8 @@ first_opening b c = if c == 0 then Some (record { address = b.boot; context = 0 
 abbrev pub first_granted : BoardValue → ℕ → ℕ → ℕ
 first_granted b level place =
     if has_node b (record { level = level; place = place }) && not (is_path_place b 0 level place)
-    then 3
-    else 0
+    then power_down
+    else running
 
 -- the power-down of every domain off the path of the boot core is confirmed
 abbrev pub first_confirmed : BoardValue → ℕ → ℕ → Bool

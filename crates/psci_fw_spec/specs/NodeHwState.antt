@@ -4,6 +4,7 @@ use Rattle.psci_abi.specs.Codes.{invalid_parameters}
 use Rattle.psci_abi.specs.declared.code.Code.{Code}
 use Rattle.psci_board.specs.Board.{BoardValue, node_of}
 use Rattle.psci_board.specs.declared.node.Node.{Node}
+use Rattle.psci_state.specs.Ask.{power_down, running}
 use Rattle.psci_fw_spec.specs.declared.hw.Hw.{Hw}
 use Rattle.psci_fw_spec.specs.declared.hw.Hw.TheVariants.{On, Off, Standby}
 use Rattle.psci_fw_spec.specs.Values.{Values}
@@ -16,7 +17,7 @@ hw_code Standby = 2
 
 -- the state of a domain at this depth: off in power-down, standby in standby or retention
 abbrev pub hw_at : ℕ → Hw
-hw_at depth = if depth == 3 then Off else (if depth == 0 then On else Standby)
+hw_at depth = if depth == power_down then Off else (if depth == running then On else Standby)
 
 -- the hardware state of a domain: that of its granted depth where the last claim on it is
 -- confirmed, else on

@@ -14,14 +14,12 @@ pub mod Missing
 mod NameRows
 pub mod Named
 pub mod Naming
+mod OrderRows
 pub mod OwnCalls
 pub mod OwnCores
 pub mod OwnStates
 pub mod Reading
 pub mod Requests
-pub mod Said
-mod SaidRows
-mod SameRows
 mod StateRows
 mod SwapRows
 pub mod Swapped

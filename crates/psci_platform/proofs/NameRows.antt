@@ -56,8 +56,6 @@ abbrev deeper : Reading
 deeper = record {
   row = record { word = 0x10000; mask = 0xffffffff; states = 1 ∷ 0 ∷ 0 ∷ 0 ∷ [] };
   word = 0x10003;
-  ask = 3 ∷ 0 ∷ 0 ∷ 0 ∷ [];
-  is_ask = true;
   is_first = false;
 }
 

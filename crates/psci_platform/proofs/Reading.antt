@@ -1,14 +1,11 @@
 -- What is found out of a row says what its words are.
 use Rattle.std.proofs.Common.{Bor, find}
-use Rattle.std.specs.Prelude.{is_ok}
-use Rattle.std.specs.Result.{result_unwrap_or}
-use Rattle.psci_platform.proofs.Words.{◌∙◌, ◌∷◌, ◌≡◌, [], ap, ask_of, BadState, BoardValue, Bool}
-use Rattle.psci_platform.proofs.Words.{can_ask, can_ask_by, deepest_of, DescriptionValue, Err}
-use Rattle.psci_platform.proofs.Words.{false, Format, height, IfSome, if◌then◌else◌, List, map}
-use Rattle.psci_platform.proofs.Words.{no_state, None, none-some, Ok, Option, option_map}
-use Rattle.psci_platform.proofs.Words.{OsInitiated, Platform, Reading, reading_of, reads, refl}
-use Rattle.psci_platform.proofs.Words.{Result, Row, same_Some, Some, states_if, states_of, subst}
-use Rattle.psci_platform.proofs.Words.{SuspendMode, sym, true, word_for, ℕ}
+use Rattle.psci_platform.proofs.Words.{◌∙◌, ◌∷◌, ◌≡◌, [], ap, BoardValue, Bool, can_ask}
+use Rattle.psci_platform.proofs.Words.{can_ask_by, DescriptionValue, false, Format, IfSome}
+use Rattle.psci_platform.proofs.Words.{if◌then◌else◌, List, map, no_state, None, none-some, Option}
+use Rattle.psci_platform.proofs.Words.{option_map, OsInitiated, Platform, Reading, reading_of}
+use Rattle.psci_platform.proofs.Words.{reads, refl, Row, same_Some, Some, states_if, states_of}
+use Rattle.psci_platform.proofs.Words.{subst, SuspendMode, sym, true, word_for, ℕ}
 use Rattle.psci_platform.specs.Names.{IsReady}
 use Rattle.psci_platform.specs.declared.ready.Ready.{Ready}
 use Rattle.psci_platform.specs.States.{row_of}
@@ -17,7 +14,7 @@ use Rattle.psci_platform.specs.States.{row_of}
 pub rows_of : (d : DescriptionValue) (b : BoardValue) (boot : ℕ) (o : Option (Bor Ready))
     (r : Bor Ready) (readings : List Reading) → IfSome o (λ r. IsReady d b boot r.now)
     → o ≡ Some r → readings ≡ r.now.readings.items
-    → readings ≡ map (reading_of d b.format (height b)) d.rows
+    → readings ≡ map (reading_of d b.format) d.rows
 rows_of d b boot o r readings is e same =
     let here : IsReady d b boot r.now =
     subst (λ (o : Option (Bor Ready)). IfSome o (λ r. IsReady d b boot r.now)) e is in
@@ -27,14 +24,9 @@ pub no_word : (d : DescriptionValue) (format : Format) (mode : SuspendMode) (wor
     → None ≡ states_of d mode word → no_state ≡ word_for d format (states_of d mode word)
 no_word d format mode word none = ap (word_for d format) none
 
-ok_is : (o : Result (List ℕ) BadState) → is_ok o ≡ true
-    → o ≡ Ok (result_unwrap_or o (deepest_of 0))
-ok_is (Ok ask) e = refl
-ok_is (Err bad) e = absurd (cc)
-
-module _ (d : DescriptionValue) (format : Format) (height : ℕ) where
+module _ (d : DescriptionValue) (format : Format) where
   abbrev reading : Row → Reading
-  reading = reading_of d format height
+  reading = reading_of d format
 
   step : (t : Bool) (row : Row) (o : Option Row)
       → (if t then Some (reading row) else option_map reading o)
@@ -95,21 +87,8 @@ module _ (d : DescriptionValue) (format : Format) (height : ℕ) where
           sym (ap (states_if d mode) row.0
           ∙ ap (λ (t : Bool). if t then Some r.row.states else None) may)
 
-      -- it asks something where the board reads its word for the row's states
-      pub is_read : r.is_ask ≡ is_ok (ask_of format height (word_for d format (Some r.row.states)))
-      is_read = ap (λ (x : Reading). x.is_ask) row_read.1
-
       pub word_found : (mode : SuspendMode) → can_ask_by r mode ≡ true
           → r.word ≡ word_for d format (states_of d mode word)
       word_found mode can =
           let row = row_read in
           ap (λ (x : Reading). x.word) row.1 ∙ ap (word_for d format) (states_read mode true can)
-
-      -- what is kept of a row's word is what it asks
-      pub ask_found : r.is_ask ≡ true → ask_of format height r.word ≡ Ok r.ask
-      ask_found asks =
-          let row = row_read in
-          let own = word_for d format (Some r.row.states) in
-          ap (λ (x : Reading). ask_of format height x.word) row.1
-          ∙ ok_is (ask_of format height own) (sym (ap (λ (x : Reading). x.is_ask) row.1) ∙ asks)
-          ∙ ap (λ (x : List ℕ). Ok x) (sym (ap (λ (x : Reading). x.ask) row.1))

@@ -34,7 +34,6 @@ pub use Rattle.psci_platform.specs.Described.{DescriptionValue}
 pub use Rattle.psci_platform.specs.Faults.{fault_of, has_boot, has_same, is_mpidr, is_power_state}
 pub use Rattle.psci_platform.specs.Faults.{is_system, rises}
 pub use Rattle.psci_platform.specs.Identity.{depths_at, every_function, identity, row_asking}
-pub use Rattle.psci_platform.specs.Kept.{Asks, is_on, is_suspend}
 pub use Rattle.psci_platform.specs.Names.{AreAmong, AreNames, IsName}
 pub use Rattle.psci_platform.specs.States.{can_ask, can_ask_by, depth_at, depths_of, no_state}
 pub use Rattle.psci_platform.specs.States.{reading_of, reads, states_if, states_of, word_for}

@@ -17,11 +17,6 @@ use Rattle.psci_platform.specs.Cores.{core_word}
 use Rattle.psci_platform.specs.Described.{DescriptionValue}
 use Rattle.psci_platform.specs.States.{states_of, word_for}
 
--- whether the function of a word is there on each platform, and its call the firmware's own:
--- PSCI_VERSION and MIGRATE_INFO_TYPE
-abbrev pub is_same : ℕ → Bool
-is_same word = word == 0x84000000 || word == 0x84000006
-
 -- the argument of a function that may not be there
 abbrev pub there : Bool → Argument → Argument
 there is_there a = if is_there then a else Missing

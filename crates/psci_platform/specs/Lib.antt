@@ -4,7 +4,6 @@ pub mod Cores
 pub mod Described
 pub mod Faults
 pub mod Identity
-pub mod Kept
 pub mod Names
 pub mod Platforms
 pub mod States

@@ -1,10 +1,10 @@
 -- What a platform keeps of its cores and power domains, so that none is searched among all.
-use Rattle.std.specs.Prelude.{◌≡◌, ◌<◌, ◌*◌, ◌/◌, ◌%◌, ◌^◌, ◌==◌, ℕ, Bool, true}
+use Rattle.std.specs.Prelude.{◌≡◌, ◌<◌, ◌*◌, ◌/◌, ◌%◌, ◌^◌, ◌==◌, ℕ, Bool, true, false, nat_lt}
 use Rattle.std.specs.Prelude.{if◌then◌else◌, List}
 use Rattle.std.specs.Prelude.{◌≤◌, Option, None, Some, IfSome, is_some, length, map, slice_get}
 use Rattle.std.specs.Int.Bits.{bit_and}
 use Rattle.std.specs.List.{All, Contains, list_all}
-use Rattle.psci_board.specs.Board.{BoardValue, address, cores, height}
+use Rattle.psci_board.specs.Board.{BoardValue, address, cores}
 use Rattle.psci_platform.specs.Cores.{number_named}
 use Rattle.psci_platform.specs.Described.{DescriptionValue}
 use Rattle.psci_platform.specs.declared.names.Name.{Name}
@@ -57,4 +57,9 @@ AreNames d b boot tables =
 pub record IsReady (d : DescriptionValue) (b : BoardValue) (boot : ℕ) (r : Ready) : Type 0 where
   pub few : length r.tables.items ≤ 4
   pub names : AreNames d b boot r.tables.items
-  pub rows : r.readings.items ≡ map (reading_of d b.format (height b)) d.rows
+  pub rows : r.readings.items ≡ map (reading_of d b.format) d.rows
+
+-- the names of this level are kept
+abbrev pub has_level : Option ℕ → ℕ → Bool
+has_level None level = false
+has_level (Some levels) level = nat_lt level levels

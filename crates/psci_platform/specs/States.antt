@@ -1,15 +1,14 @@
 -- Power state words of a platform, and what they ask of each level.
 use Rattle.std.specs.Prelude.{ℕ, ◌-◌, Bool, true, not, ◌==◌, ◌&&◌, nat_lt}
 use Rattle.std.specs.Prelude.{if◌then◌else◌, List, [], ◌∷◌, Option, Some, None, slice_index}
-use Rattle.std.specs.Prelude.{slice_index_or, map, find, is_ok}
+use Rattle.std.specs.Prelude.{slice_index_or, map, find}
 use Rattle.std.specs.Int.Bits.{bit_and}
 use Rattle.std.specs.List.{list_any}
 use Rattle.psci_abi.specs.declared.format.Format.{Format}
 use Rattle.psci_fw_spec.specs.declared.mode.SuspendMode.{SuspendMode}
 use Rattle.psci_fw_spec.specs.declared.mode.SuspendMode.TheVariants.{Platform, OsInitiated}
-use Rattle.std.specs.Result.{result_unwrap_or}
-use Rattle.psci_state.specs.Ask.{deepest_of, is_ask}
-use Rattle.psci_state.specs.PowerState.{ask_of, word_of}
+use Rattle.psci_state.specs.Ask.{is_ask}
+use Rattle.psci_state.specs.PowerState.{word_of}
 use Rattle.psci_platform.specs.declared.class.Class.{Class}
 use Rattle.psci_platform.specs.declared.class.Class.TheVariants.{Running, Standby, Retention}
 use Rattle.psci_platform.specs.declared.class.Class.TheVariants.{PowerDown}
@@ -76,18 +75,13 @@ abbrev pub word_for : DescriptionValue → Format → Option (List ℕ) → ℕ
 word_for d format None = no_state
 word_for d format (Some states) = word_asking format (depths_of d states)
 
--- what the words of a row are to the firmware, on a board of this format and height
-abbrev pub reading_of : DescriptionValue → Format → ℕ → Row → Reading
-reading_of d format height row =
-    let word = word_for d format (Some row.states) in
-    let ask = ask_of format height word in
-    record {
-      row = row;
-      word = word;
-      ask = result_unwrap_or ask (deepest_of 0);
-      is_ask = is_ok ask;
-      is_first = can_ask d Platform row.states;
-    }
+-- what the words of a row are to the firmware, on a board of this format
+abbrev pub reading_of : DescriptionValue → Format → Row → Reading
+reading_of d format row = record {
+  row = row;
+  word = word_for d format (Some row.states);
+  is_first = can_ask d Platform row.states;
+}
 
 -- the same, for what is found out of a row
 abbrev pub can_ask_by : Reading → SuspendMode → Bool

@@ -1,10 +1,11 @@
 //! What a platform's words are by what was found out once.
 
-ghost use Rattle.std.specs.Prelude.{◌≡◌, ◌<◌, IfSome, is_some, length, option_map};
+ghost use Rattle.std.specs.Prelude.{◌≡◌, ◌<◌, true, IfSome, is_some, length, option_map};
+ghost use Rattle.psci_board.specs.Board.{cores};
 ghost use Rattle.psci_platform.specs.Cores.{core_word};
-ghost use Rattle.psci_platform.specs.Kept.{has_level};
-ghost use Rattle.psci_platform.specs.Names.{HasNames, IsReady};
+ghost use Rattle.psci_platform.specs.Names.{HasNames, IsReady, has_level};
 ghost use Rattle.psci_platform.specs.States.{states_of, word_for};
+ghost use Rattle.psci_platform.specs.Swaps.{is_symmetric};
 
 use crate::class::LEVELS;
 use crate::cores::NO_CORE;
@@ -17,28 +18,30 @@ use psci_board::{Board, Core};
 use psci_fw_spec::SuspendMode;
 
 impl Description {
-    /// The affinity word of the board for an MPIDR at this level, if the names of the level are
-    /// kept. Then an MPIDR without a name names no core.
+    /// The affinity word of the board for an MPIDR at this level. Where the names of the level are
+    /// kept, an MPIDR without a name names no core.
     #[inline(always)]
     #[tactic(auto, using(crate::proofs::Naming::word_found, crate::proofs::Naming::word_missed))]
-    pub(crate) fn word_kept(
+    pub(crate) fn word_by(
         &self,
         board: &Board,
         boot: Core,
         ready: Option<&Ready>,
         mpidr: u64,
         level: u32,
-    ) -> Option<u64>
+    ) -> u64
+        requires count { length self.now.mpidrs ≡ cores board.now }
+        requires boot { boot.number < cores board.now }
+        requires symmetric { is_symmetric board.now boot.number ≡ true }
         requires ready { IfSome ready (λ r. IsReady self.now board.now boot.number r.now) }
-        ensures word { IfSome result (λ word. word
-            ≡ core_word self.now board.now boot.number mpidr level) }
-        ensures said { is_some result
-            ≡ has_level (option_map (λ r. length r.now.tables.items) ready.entry) level }
+        ensures { result ≡ core_word self.now board.now boot.number mpidr level }
     {
-        let table = self.table_kept(board, boot, ready, level)?;
+        let Some(table) = self.table_kept(board, boot, ready, level) else {
+            return self.core_word(board, boot, mpidr, level);
+        };
         match table.name(mpidr >> (8 * level)) {
-            Some(name) => Some(name.word),
-            None => Some(NO_CORE),
+            Some(name) => name.word,
+            None => NO_CORE,
         }
     }
 

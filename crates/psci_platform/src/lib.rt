@@ -12,7 +12,6 @@
 
 mod argument;
 mod asked;
-mod at_once;
 mod check;
 mod class;
 mod cores;
@@ -21,7 +20,6 @@ mod fault;
 mod firmware;
 mod functions;
 mod kept;
-mod kept_calls;
 mod law;
 mod mpidrs;
 mod names;
@@ -37,7 +35,6 @@ mod tables;
 mod translate;
 
 pub use asked::Asked;
-pub use at_once::is_same_everywhere;
 pub use class::Class;
 pub use cores::affinity_word;
 pub use description::{Classes, Description};

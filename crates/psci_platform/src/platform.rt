@@ -51,12 +51,10 @@ impl Model for Platform {
 ghost use Rattle.std.specs.Prelude.{◌≡◌, ◌<◌, None, Some, IfOk, IfSome, MatchResult, option_map};
 ghost use Rattle.std.specs.Prelude.{is_some, length, slice_get};
 ghost use Rattle.psci_board.specs.Board.{cores};
-ghost use Rattle.psci_platform.specs.Cores.{boot_place, number_named};
+ghost use Rattle.psci_platform.specs.Cores.{boot_place, core_word, number_named};
 ghost use Rattle.psci_platform.specs.Names.{IsReady};
-ghost use Rattle.psci_platform.specs.declared.asked.Asked.TheVariants.{Nothing};
 ghost use Rattle.psci_platform.specs.Calls.{asked_for, regs_for};
 ghost use Rattle.psci_platform.specs.Faults.{fault_of};
-ghost use Rattle.psci_platform.specs.Kept.{says};
 ghost use Rattle.psci_platform.specs.Platforms.{IsInOrder};
 ghost use Rattle.psci_platform.specs.Swaps.{moved, swap_for};
 
@@ -97,9 +95,7 @@ impl Platform {
         ensures { IfOk result (IsInOrder self) }
     {
         let tables = self.description.tables(alloc, &self.board, self.boot_core)?;
-        let readings = self
-            .description
-            .readings(alloc, self.board.format(), self.board.height())?;
+        let readings = self.description.readings(alloc, self.board.format())?;
         Ok(Platform {
             ready: Some(Ready { tables, readings }),
             ..self
@@ -143,6 +139,16 @@ impl Platform {
         Some(name.core)
     }
 
+    /// The affinity word of the board for the core that an MPIDR names; where there is none, a word
+    /// that names no core of any board.
+    #[tactic(auto, using(crate::proofs::Checked::some_count))]
+    pub fn word(&self, mpidr: u64) -> u64
+        ensures { result ≡ core_word self.now.description self.now.board self.now.place mpidr 0 }
+    {
+        self.description
+            .word_by(&self.board, self.boot_core, self.ready(), mpidr, 0)
+    }
+
     /// The MPIDR of a core, if the platform has it: of one that a message names.
     pub fn mpidr(&self, core: Core) -> Option<u64>
         ensures { result ≡ slice_get self.now.description.mpidrs
@@ -165,6 +171,7 @@ impl Platform {
     /// What the platform does not have becomes a word that the firmware does not have, so that the
     /// firmware refuses it, and in its place among the refusals: a function NOT_SUPPORTED, a core
     /// or a power state INVALID_PARAMETERS.
+    #[inline(always)]
     #[tactic(auto, using(crate::proofs::Checked::some_count))]
     pub fn translate(&self, mode: SuspendMode, regs: Regs) -> Call
         ensures regs { result.regs
@@ -173,20 +180,5 @@ impl Platform {
     {
         self.description
             .translate_by(&self.board, self.boot_core, self.ready(), mode, regs)
-    }
-
-    /// The registers of `translate`, if they can be said at once, are the same in each mode, and
-    /// nothing is asked beside. They are of each call whose first argument names nothing here, or a
-    /// core or power domain of a level whose names are kept.
-    #[inline(always)]
-    pub fn at_once(&self, regs: Regs) -> Option<Regs>
-        ensures regs { IfSome result (λ r. (mode : SuspendMode) → r
-            ≡ regs_for self.now.description self.now.board self.now.place mode regs) }
-        ensures asked { IfSome result (λ _. (mode : SuspendMode)
-            → asked_for self.now.description mode regs ≡ Nothing) }
-        ensures said { is_some result ≡ says self.now regs }
-    {
-        self.description
-            .at_once(&self.board, self.boot_core, self.ready(), regs)
     }
 }

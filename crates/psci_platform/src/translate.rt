@@ -7,7 +7,6 @@ ghost use Rattle.psci_platform.specs.declared.asked.Asked.TheVariants as asks;
 ghost use Rattle.psci_platform.specs.Arguments.{regs_by, told_by};
 ghost use Rattle.psci_platform.specs.Calls.{asked_for, asks_states, feature_word};
 ghost use Rattle.psci_platform.specs.Calls.{is_vendors, no_function, regs_for, reset_word};
-ghost use Rattle.psci_platform.specs.Cores.{core_word};
 ghost use Rattle.psci_platform.specs.Names.{IsReady};
 ghost use Rattle.psci_platform.specs.Swaps.{is_symmetric};
 
@@ -45,6 +44,7 @@ impl Description {
     }
 
     /// The same, where these are names of cores.
+    #[inline(always)]
     pub(crate) fn translate_by(
         &self,
         board: &Board,
@@ -65,6 +65,7 @@ impl Description {
     }
 
     /// The call of the firmware, where this is what the first argument names.
+    #[inline(always)]
     fn call_by(
         &self,
         board: &Board,
@@ -119,27 +120,6 @@ impl Description {
         }
     }
 
-    /// The affinity word of the board for an MPIDR at this level.
-    fn word_by(
-        &self,
-        board: &Board,
-        boot: Core,
-        ready: Option<&Ready>,
-        mpidr: u64,
-        level: u32,
-    ) -> u64
-        requires count { length self.now.mpidrs ≡ cores board.now }
-        requires boot { boot.number < cores board.now }
-        requires symmetric { is_symmetric board.now boot.number ≡ true }
-        requires ready { IfSome ready (λ r. IsReady self.now board.now boot.number r.now) }
-        ensures { result ≡ core_word self.now board.now boot.number mpidr level }
-    {
-        match self.word_kept(board, boot, ready, mpidr, level) {
-            Some(word) => word,
-            None => self.core_word(board, boot, mpidr, level),
-        }
-    }
-
     /// The function word that the firmware is asked about.
     fn feature_word(&self, word: u32) -> u32
         ensures { result ≡ feature_word self.now word }
@@ -167,7 +147,7 @@ impl Description {
 
 /// The registers of a call of no function.
 #[inline(always)]
-pub fn missing(regs: Regs) -> Regs
+fn missing(regs: Regs) -> Regs
     ensures { result ≡ record regs { x0 = no_function } }
 {
     Regs {

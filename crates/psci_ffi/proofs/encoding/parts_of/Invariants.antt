@@ -1,3 +1,4 @@
+-- The parts so far are the given ones.
 use Rattle.std.proofs.Common.{◌≡◌, map, take}
 use Rattle.psci_ffi.specs.Fields.{part_given}
 use Rattle.psci_ffi.proofs.encoding.parts_of.Given as goal

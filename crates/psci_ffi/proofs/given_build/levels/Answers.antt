@@ -1,3 +1,4 @@
+-- A number of children that was found small enough fits.
 use Rattle.psci_ffi.proofs.GivenBoards.{few_below, small}
 use Rattle.psci_ffi.proofs.given_build.levels.Goals as goal
 

@@ -1,3 +1,4 @@
+-- The levels so far are the given ones.
 use Rattle.std.proofs.Common.{◌≡◌, map, take}
 use Rattle.psci_ffi.specs.Given.{level_given}
 use Rattle.psci_ffi.proofs.given_build.levels.Given as goal

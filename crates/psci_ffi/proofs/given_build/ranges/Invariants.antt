@@ -1,3 +1,4 @@
+-- The ranges so far are the given ones.
 use Rattle.std.proofs.Common.{◌≡◌, map, take}
 use Rattle.psci_ffi.specs.Given.{range_given}
 use Rattle.psci_ffi.proofs.given_build.ranges.Given as goal

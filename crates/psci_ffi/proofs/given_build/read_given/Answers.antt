@@ -1,3 +1,4 @@
+-- What is given without a fault is a board, and a fault is answered.
 use Rattle.std.proofs.Common.{◌≡◌, true, Some, None}
 use Rattle.psci_ffi.specs.Given.{fault_given, format_given, has_levels}
 use Rattle.psci_ffi.proofs.GivenBoards.{bad_answer, is_board}

@@ -1,3 +1,4 @@
+-- Each call looks at fewer ranges.
 use Rattle.std.proofs.Common.{length}
 use Rattle.psci_ffi.proofs.given_fault.+is_in_some.Given as goal
 

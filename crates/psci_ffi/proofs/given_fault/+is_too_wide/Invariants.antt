@@ -1,3 +1,4 @@
+-- Each call looks at fewer levels.
 use Rattle.std.proofs.Common.{length}
 use Rattle.psci_ffi.proofs.given_fault.+is_too_wide.Given as goal
 

@@ -1,3 +1,4 @@
+-- A description makes a machine, or has the fault that is answered.
 use Rattle.std.proofs.Common.{◌≡◌, true}
 use Rattle.psci_ffi.specs.Given.{board_of_given}
 use Rattle.psci_ffi.specs.Machines.{has_room}

@@ -1,3 +1,4 @@
+-- The rows so far are the given ones.
 use Rattle.std.proofs.Common.{◌≡◌, map, take}
 use Rattle.psci_ffi.specs.Machines.{row_given}
 use Rattle.psci_ffi.proofs.machine_opening.rows.Given as goal

@@ -1,3 +1,4 @@
+-- A core that enters halts, goes its way or is parked.
 use Rattle.std.proofs.Common.{◌≡◌, None, false, sym, ap, ◌∙◌}
 use Rattle.psci_fw_spec.specs.Changes.{with_arrival}
 use Rattle.psci_fw_spec.specs.Lives.{in_life}

@@ -1,3 +1,4 @@
+-- A firmware that no core has entered is as at the start of a life, by each kind of call.
 use Rattle.psci_fw.proofs.Fresh.{begun_fresh, call_fresh, enter_fresh, first_fresh, take_fresh}
 use Rattle.psci_fw.proofs.laws.law_fresh.Goals as goal
 

@@ -1,3 +1,4 @@
+-- What may be claimed, of each way in which a core stops.
 use Rattle.std.proofs.Common.{refl}
 use Rattle.psci_abi.specs.declared.request.Request.TheVariants as requests
 use Rattle.psci_state.specs.Ask.{deepest_of}

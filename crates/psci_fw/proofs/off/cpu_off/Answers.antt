@@ -1,3 +1,4 @@
+-- A core that goes off claims what it leaves.
 use Rattle.psci_fw_state.specs.Seen.{values_in}
 use Rattle.psci_fw.proofs.Answered.{leaving_off, left_may, off_answered}
 use Rattle.psci_fw.proofs.off.cpu_off.Goals as goal

@@ -1,3 +1,4 @@
+-- What may be granted before a suspend may be granted after it.
 use Rattle.std.proofs.Common.{List, sym, subst}
 use Rattle.psci_board.specs.Board.{BoardValue}
 use Rattle.psci_messages.specs.declared.part.Part.{Part}

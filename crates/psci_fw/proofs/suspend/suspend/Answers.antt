@@ -1,3 +1,4 @@
+-- A suspend with a sound entry point, below the start limit, is carried out.
 use Rattle.std.proofs.Common.{sym, ◌∙◌, rules}
 use Rattle.psci_fw_state.specs.Seen.{values_in}
 use Rattle.psci_fw.specs.Reactions.{outcome_in}

@@ -1,3 +1,4 @@
+-- The system may be suspended with the deepest ask.
 use Rattle.std.proofs.Common.{◌≡◌, sym, ◌∙◌}
 use Rattle.psci_board.specs.Board.{height}
 use Rattle.psci_state.specs.Ask.{deepest_of}

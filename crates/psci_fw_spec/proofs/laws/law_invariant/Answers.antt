@@ -1,3 +1,4 @@
+-- The invariant holds at the start, and after each function, entry and acknowledgement.
 use Rattle.psci_fw_spec.proofs.Words.{BoardValue, height, IsBoard}
 use Rattle.psci_fw_spec.proofs.Answered.{Worded, deepest_is, kept_function}
 use Rattle.psci_fw_spec.proofs.Asked.{Known}

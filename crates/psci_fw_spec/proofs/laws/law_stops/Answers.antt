@@ -1,3 +1,4 @@
+-- What is claimed by a core that goes off, is parked or is suspended.
 use Rattle.psci_fw_spec.proofs.Words.{Away, BoardValue, IsBoard, Suspended, with_arrival}
 use Rattle.psci_fw_spec.proofs.Asked.{Known}
 use Rattle.psci_fw_spec.proofs.Wishes.{off_claimed, suspended_claimed}

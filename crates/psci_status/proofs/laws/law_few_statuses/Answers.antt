@@ -1,3 +1,4 @@
+-- A core has no more statuses than its starts and the lives allow.
 use Rattle.psci_status.proofs.Counting.{few_statuses}
 use Rattle.psci_status.proofs.laws.law_few_statuses.Goals as goal
 

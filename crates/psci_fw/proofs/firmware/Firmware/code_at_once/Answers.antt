@@ -1,3 +1,4 @@
+-- What is told at once is what the call would answer.
 use Rattle.std.proofs.Common.{◌∙◌, sym, ap}
 use Rattle.psci_abi.specs.declared.request.Request.{Request}
 use Rattle.psci_fw_state.specs.Seen.{StateValue, values_in}

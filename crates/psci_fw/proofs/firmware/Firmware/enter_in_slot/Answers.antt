@@ -1,3 +1,4 @@
+-- An entry that is refused leaves all, and another one is carried out.
 use Rattle.std.proofs.Common.{rules}
 use Rattle.psci_fw_spec.specs.After.{after}
 use Rattle.psci_fw_spec.specs.Answer.{answer}

@@ -1,3 +1,4 @@
+-- The firmware is new, at the start of a life.
 use Rattle.psci_board.specs.Board.{IsBoard}
 use Rattle.psci_fw.proofs.firmware.Firmware.new.Goals as goal
 

@@ -1,3 +1,4 @@
+-- A CPU_ON in the slot is the call of its registers.
 use Rattle.std.proofs.Common.{◌∙◌}
 use Rattle.psci_fw_spec.specs.declared.call.FwCall.TheVariants.{Smc}
 use Rattle.psci_fw.specs.Reactions.{outcome_in}

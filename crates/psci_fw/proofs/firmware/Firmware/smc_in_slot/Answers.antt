@@ -1,3 +1,4 @@
+-- A call in the slot is answered, and leaves a firmware.
 use Rattle.std.proofs.Common.{◌≡◌, ◌∙◌, None, refl, rules, subst, sym}
 use Rattle.psci_abi.specs.Calls.{request_of}
 use Rattle.psci_board.specs.Board.{BoardValue, IsBoard}

@@ -1,3 +1,4 @@
+-- An acknowledgement is answered by what becomes of it.
 use Rattle.std.proofs.Common.{rules}
 use Rattle.psci_fw_spec.specs.Answer.{answer}
 use Rattle.psci_fw.proofs.firmware.Firmware.take.Goals as goal

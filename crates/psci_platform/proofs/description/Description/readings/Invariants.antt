@@ -5,4 +5,4 @@ use Rattle.psci_platform.proofs.description.Description.readings.Given as goal
 
 abbrev pub invariant-loop-row : goal.invariant-loop-row
 invariant-loop-row l =
-    l.readings.items ≡ map (reading_of l.self l.format l.height) (take l.row-index l.self.rows)
+    l.readings.items ≡ map (reading_of l.self l.format) (take l.row-index l.self.rows)

@@ -1,5 +1,5 @@
 -- What is found out of a platform is of its description and its board.
-use Rattle.psci_platform.proofs.Words.{◌∙◌, ap, Format, map, reading_of, ℕ}
+use Rattle.psci_platform.proofs.Words.{◌∙◌, ap, Format, map, reading_of}
 use Rattle.psci_platform.proofs.platform.Platform.in_order.Goals as goal
 
 pub invariant_of-result : goal.invariant_of-result
@@ -14,9 +14,7 @@ invariant_of-result c = (
     few = c.in_ok-tables.ensures.few;
     names = c.in_ok-tables.ensures.names;
     rows = c.in_ok-readings.ensures
-        ∙ ap (λ (f : Format). map (reading_of c.self.inside.description f c.height.result)
-        c.self.inside.description.rows) c.format.ensures
-        ∙ ap (λ (h : ℕ). map (reading_of c.self.inside.description c.self.inside.board.format h)
-        c.self.inside.description.rows) c.height.ensures.height;
+        ∙ ap (λ (f : Format). map (reading_of c.self.inside.description f)
+        c.self.inside.description.rows) c.format.ensures;
   },
 )

@@ -1,3 +1,4 @@
+-- What is told at once leaves the words as they are.
 use Rattle.psci_status.proofs.CallSteps.{still_written}
 use Rattle.psci_status.proofs.polled.PolledFirmware.code_at_once.Goals as goal
 

@@ -1,3 +1,4 @@
+-- After an entry the entering core's word has its status.
 use Rattle.std.proofs.Common.{Some}
 use Rattle.psci_status.proofs.Past.{names_enter}
 use Rattle.psci_status.proofs.CallSteps.{next_left, next_still, others_stay, polled_next}

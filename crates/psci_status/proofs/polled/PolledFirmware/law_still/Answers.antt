@@ -1,3 +1,4 @@
+-- The words have what the firmware says.
 use Rattle.psci_status.proofs.CallSteps.{still_written}
 use Rattle.psci_status.proofs.polled.PolledFirmware.law_still.Goals as goal
 

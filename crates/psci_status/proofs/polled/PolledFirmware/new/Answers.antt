@@ -1,3 +1,4 @@
+-- The words of a new firmware have the first statuses.
 use Rattle.std.proofs.Common.{ap, ◌∙◌}
 use Rattle.atomic_table.specs.Seated.{TableId}
 use Rattle.psci_status.proofs.CallSteps.{polled_first}

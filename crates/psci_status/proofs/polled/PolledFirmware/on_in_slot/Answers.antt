@@ -1,3 +1,4 @@
+-- After a CPU_ON its target's word has the status.
 use Rattle.psci_status.proofs.CallSteps.{few_rows, smc_next, smc_polled, smc_stays}
 use Rattle.psci_status.proofs.polled.PolledFirmware.on_in_slot.Goals as goal
 

@@ -1,3 +1,4 @@
+-- After a call the word of the one core that it changes has its status.
 use Rattle.psci_status.proofs.CallSteps.{next_still, smc_next, smc_polled, smc_stays}
 use Rattle.psci_fw_spec.specs.declared.call.FwCall.TheVariants as calls
 use Rattle.psci_status.proofs.polled.PolledFirmware.smc_in_slot.Goals as goal

@@ -1,3 +1,4 @@
+-- After a CPU_SUSPEND the words have what the firmware says.
 use Rattle.psci_status.proofs.CallSteps.{few_rows, smc_next, smc_polled, smc_stays}
 use Rattle.psci_status.proofs.polled.PolledFirmware.suspend_in_slot.Goals as goal
 

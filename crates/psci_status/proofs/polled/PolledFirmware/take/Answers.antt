@@ -1,3 +1,4 @@
+-- After an acknowledgement its core's word has the status.
 use Rattle.std.proofs.Common.{◌≡◌, Some, false, refl, subst}
 use Rattle.std.specs.Prelude.{◌==◌}
 use Rattle.psci_messages.specs.Message.{AckValue}

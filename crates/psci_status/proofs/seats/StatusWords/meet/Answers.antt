@@ -1,3 +1,4 @@
+-- What a reader saw of each word was written, and the last of it is known.
 use Rattle.std.proofs.Common.{ℕ, ◌<◌, List, sym, ap, ◌∙◌, subst}
 use Rattle.atomic_table.specs.Seated.{TableId}
 use Rattle.psci_status.specs.Lists.{Item, row, Within, IsLast}

@@ -1,3 +1,4 @@
+-- Each word of a new table says OFF, as its rule wants it.
 use Rattle.std.proofs.Common.{rules}
 use Rattle.psci_status.proofs.Steps.{opens}
 use Rattle.psci_status.proofs.seats.StatusWords.new.Goals as goal

@@ -1,3 +1,4 @@
+-- What is read of a word was written, and not before what was read of it.
 use Rattle.std.proofs.Common.{ℕ, ◌/◌, ◌<◌, List, [], sym, ap, ◌∙◌, subst, arith}
 use Rattle.std.specs.Prelude.{slice_set}
 use Rattle.std.proofs.lemmas.List.{get_or-set_same}

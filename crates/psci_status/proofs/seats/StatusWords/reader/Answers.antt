@@ -1,3 +1,4 @@
+-- A seat for a reader is split off the writer's.
 use Rattle.psci_status.proofs.Steps.{notes}
 use Rattle.psci_status.proofs.seats.StatusWords.reader.Goals as goal
 

@@ -1,3 +1,4 @@
+-- A reader and the writer tell each other what they saw and wrote.
 use Rattle.std.proofs.Common.{◌≡◌, length, sym, ap, ◌∙◌, arith}
 use Rattle.atomic_table.specs.Table.{Me}
 use Rattle.psci_status.specs.declared.rule.View.{View}

@@ -1,3 +1,4 @@
+-- The writer reads what it wrote.
 use Rattle.std.proofs.Common.{◌<◌, arith}
 use Rattle.psci_status.proofs.Steps.{looks}
 use Rattle.psci_status.proofs.seats.StatusWords.word.Goals as goal

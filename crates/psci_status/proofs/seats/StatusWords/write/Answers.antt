@@ -1,3 +1,4 @@
+-- One status more is written, with the next number.
 use Rattle.std.proofs.Common.{◌<◌, refl, arith}
 use Rattle.psci_status.specs.Lists.{row}
 use Rattle.psci_status.proofs.Lists.{word_length, next_word}

@@ -1,0 +1,89 @@
+-- Worked examples: the words that a place is opened with, and what is asked beside an answer.
+use Rattle.std.proofs.Common.{◌≡◌, ℕ, [], ◌∷◌, None, Some, refl}
+use Rattle.std.specs.Global.{Global}
+use Rattle.std_alloc.specs.declared.boxed.Box.{Box}
+use Rattle.std.specs.Prelude.{Option}
+use Rattle.psci_board.specs.Board.{BoardValue}
+use Rattle.psci_fw_spec.specs.declared.call.FwCall.{FwCall}
+use Rattle.psci_platform.specs.declared.asked.Asked.TheVariants.{Nothing, States}
+use Rattle.psci_platform.specs.Platforms.{PlatformValue}
+use Rattle.psci_status.specs.Polled.{IsNext, PolledView}
+use Rattle.psci_ffi.specs.declared.answer.Answer.{Answer}
+use Rattle.psci_ffi.specs.declared.asked.GivenAsked.{GivenAsked}
+use Rattle.psci_ffi.specs.declared.naming.Naming.TheVariants.{Board, Machine}
+use Rattle.psci_ffi.specs.Frames.{IsTakenBy}
+use Rattle.psci_ffi.specs.Namings.{PlaceValue, board_of, machine_of}
+use Rattle.psci_ffi.specs.Shown.{IsNew, IsNewIn, IsNewOn, IsNextIn, asked_shown, refused}
+use Rattle.psci_ffi.specs.Shown.{with_asked}
+use Rattle.psci_ffi.proofs.Apart.{apart-by}
+
+-- Words ---------------------------------------------------------------------------------------
+
+-- a board has its own words and is no machine; a machine has a board
+named : (b : Box BoardValue Global) (m : Box PlatformValue Global)
+    → (board_of (Board b) ≡ b.value) × (board_of (Machine m) ≡ m.value.board)
+    × (machine_of (Board b) ≡ None) × (machine_of (Machine m) ≡ Some m.value)
+named b m = (refl, refl, refl, refl)
+
+-- a place with these words
+abbrev with_machine : Option PlatformValue → PolledView → PlaceValue
+with_machine machine p = record { polled = p; machine = machine }
+
+abbrev many : Option PlatformValue → ℕ
+many None = 0
+many (Some m) = 1
+
+-- a new firmware is that of the board, in the words that it is opened with
+opened : (b : Box BoardValue Global) (m : Box PlatformValue Global) (p : PolledView)
+    → (IsNew b.value p → IsNewIn (Board b) (with_machine None p))
+    × (IsNew m.value.board p → IsNewIn (Machine m) (with_machine (Some m.value) p))
+    × (IsNewIn (Machine m) (with_machine (Some m.value) p) → IsNew m.value.board p)
+    × (IsNew b.value p → IsNewOn b.value (with_machine None p))
+    × (IsNewOn b.value (with_machine None p) → IsNew b.value p)
+opened b m p = (
+  λ h. record { fresh = h; machine = refl },
+  λ h. record { fresh = h; machine = refl },
+  λ h. h.fresh,
+  λ h. record { fresh = h; machine = refl },
+  λ h. h.fresh,
+)
+
+opened_not : (b : Box BoardValue Global) (m : Box PlatformValue Global) (p : PolledView)
+    → ¬ (IsNewIn (Board b) (with_machine (Some m.value) p))
+    × ¬ (IsNewIn (Machine m) (with_machine None p))
+    × ¬ (IsNewOn b.value (with_machine (Some m.value) p))
+opened_not b m p = (
+  λ h. apart-by many h.machine refl,
+  λ h. apart-by many h.machine refl,
+  λ h. apart-by many h.machine refl,
+)
+
+-- What is left --------------------------------------------------------------------------------
+
+-- a call changes the firmware, and leaves the words of the place
+left : (m : PlatformValue) (p q : PolledView) (core : ℕ) (call : FwCall)
+    → (IsNext p core call q
+    → IsNextIn (with_machine (Some m) p) core call (with_machine (Some m) q))
+    × (IsNextIn (with_machine (Some m) p) core call (with_machine (Some m) q)
+    → IsNext p core call q)
+left m p q core call = (λ h. record { next = h; machine = refl }, λ h. h.next)
+
+left_not : (m : PlatformValue) (p q : PolledView) (core : ℕ) (call : FwCall)
+    → ¬ (IsNextIn (with_machine (Some m) p) core call (with_machine None q))
+left_not m p q core call = λ h. apart-by many h.machine refl
+
+-- so does an acknowledgement
+taken_not : (m : PlatformValue) (p q : PolledView) (code : ℕ)
+    → ¬ (IsTakenBy (with_machine (Some m) p) [] code (with_machine None q))
+taken_not m p q code = λ h. apart-by many h.machine refl
+
+-- What is asked -------------------------------------------------------------------------------
+
+abbrev states : GivenAsked
+states = asked_shown (States (1 ∷ 1 ∷ 0 ∷ 0 ∷ []))
+
+-- it stands beside all else that is answered, also where that is a refusal
+beside : ((with_asked states (refused 19)).what ≡ 19)
+    × ((with_asked states (refused 19)).asked ≡ states)
+    × ((refused 19).asked ≡ asked_shown Nothing)
+beside = (refl, refl, refl)
