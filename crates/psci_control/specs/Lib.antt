@@ -1,0 +1,4 @@
+pub mod Orders
+pub mod ControlSide
+pub mod SideOf
+pub mod Powered

@@ -114,5 +114,5 @@ module _ (b : BoardValue) (p : Port) (mirror : IsMirror b p) (is : IsPast b p.pa
     heard = (
       can m sound,
       by_test (waits b p.values (words p) (asked.Deliver m)) refl,
-      λ start has. none-some m.core.number (sym rest.free ∙ has),
+      λ touched start has. none-some m.core.number (sym rest.free ∙ has),
     )

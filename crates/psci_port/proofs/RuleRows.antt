@@ -111,7 +111,19 @@ no_start_of_a_core_that_runs may = false≢true (sym may.1)
 no_start_with_the_lock : May board (after (off_called ++ (Arms 3 ∷ [])))
     (Delivers 9 (of_3 Start 1 [])) → ⊥
 unfolding playing
-no_start_with_the_lock may = may.2 refl refl
+no_start_with_the_lock may = may.2 refl refl refl
+
+-- one that starts nobody waits for nothing, though its core has the lock
+goes_at_once : May board (after off_called) (Delivers 9 (of_3 Start 0 []))
+unfolding playing
+goes_at_once = (
+  record {
+    message = record { core = omega arith; parts = refl };
+    board = record { core = omega arith; levels = omega arith };
+  },
+  refl,
+  λ touched. absurd (false≢true touched),
+)
 
 no_rise_of_a_core_that_runs : May board (after off_called) (Rises 3) → ⊥
 unfolding playing

@@ -28,7 +28,8 @@ use Rattle.psci_port.specs.Kept.{EachTakesItsLast, IsLocked, TakesItsLast, Words
 use Rattle.psci_port.proofs.Rows.{first_is}
 use Rattle.psci_port.proofs.Own.{open_last, open_new, opens_is, sleeps_is, rises_is, rouses_is}
 use Rattle.psci_port.proofs.Own.{stops_is, takes_up, turns_is, writes_is}
-use Rattle.psci_port.proofs.Started.{delivered_starts, reset_starts_it, woken_starts}
+use Rattle.psci_port.proofs.Started.{delivered_starts, delivered_touches, reset_starts_it}
+use Rattle.psci_port.proofs.Started.{woken_starts}
 use Rattle.psci_port.proofs.Locks.{IsHeld, first_held, lock_held, one_inside, unlock_held}
 use Rattle.psci_port.proofs.Keeping.{IsKept, apart_kept, arms_kept, begins_kept, commanded_kept}
 use Rattle.psci_port.proofs.Keeping.{finished_kept, looks_apart, stays_kept}
@@ -151,7 +152,7 @@ step_kept b p (Sleeps c) is may =
 step_kept b p (Delivers k m) is may =
     commanded_kept b p is (Deliver k) (asked.Deliver m) may.1
     (λ i e. subst (λ j. p.lock ≡ Some j → ⊥) (delivered_starts b p.values m i e).1
-    (may.2 (delivered_starts b p.values m i e).0))
+    (may.2 (delivered_touches b p.values m i e) (delivered_starts b p.values m i e).0))
 step_kept b p (Wakes c) is may =
     commanded_kept b p is (Wake c) (asked.Wake (record { number = c }) (words p c))
     (waits_not (words p c == p.values.starts c) may.1)

@@ -141,7 +141,7 @@ unfolding playing changing.after
 to_serve = record {
   at = refl;
   out = refl;
-  may = (sendable_3, refl, λ start has. none-some 3 has);
+  may = (sendable_3, refl, λ touched start has. none-some 3 has);
   brings = λ spent. false≢true (sym spent.left);
 }
 
@@ -154,7 +154,7 @@ unfolding playing changing.after
 under_way = record {
   at = refl;
   out = refl;
-  may = (sendable_3, refl, λ start has. none-some 3 has);
+  may = (sendable_3, refl, λ touched start has. none-some 3 has);
   brings = λ spent. false≢true (sym spent.left);
 }
 

@@ -1,10 +1,10 @@
 -- Who is started, and who is taken down, by what the power controller is asked: a core that stands
 -- by its word, unless it is reset.
-use Rattle.std.proofs.Common.{◌==◌, ◌∷◌, ◌≡◌, [], arith, Bool, cond, false, List}
+use Rattle.std.proofs.Common.{◌==◌, ◌∷◌, ◌≡◌, [], ap, arith, Bool, cond, false, List}
 use Rattle.std.proofs.Common.{Option, None, Some, refl, subst, suc, zero, sym, true, ℕ}
 use Rattle.std.specs.Prelude.{nat_lt, not, ◌&&◌, slice_get, take}
 use Rattle.std.proofs.lemmas.Option.{none-some}
-use Rattle.std.proofs.lemmas.Bool.{eqb-true}
+use Rattle.std.proofs.lemmas.Bool.{eqb-true, false≢true}
 use Rattle.std.proofs.lemmas.Bool.Decides.{nat_tests}
 use Rattle.psci_board.specs.Board.{BoardValue, domain_of}
 use Rattle.psci_ctl_spec.specs.psci_messages.Message.{MessageValue}
@@ -26,7 +26,7 @@ use Rattle.psci_ctl_spec.specs.Parts.{applied, begins_stale}
 use Rattle.psci_ctl_spec.specs.Replies.{ack_by, ack_of, delivery_of, is_this_life, may_follow}
 use Rattle.psci_ctl_spec.specs.Replies.{reply, reset_of, wake_of}
 use Rattle.psci_ctl_spec.specs.Values.{Values, starts_below}
-use Rattle.psci_port.specs.Waiting.{switches, waits}
+use Rattle.psci_port.specs.Waiting.{switches, touches, waits}
 use Rattle.psci_port.proofs.Rows.{found}
 
 -- What an effect names ---------------------------------------------------------------------------
@@ -252,6 +252,19 @@ pub delivered_starts : (b : BoardValue) (v : Values) (m : MessageValue) (c : ℕ
     → (m.kind ≡ kinds.Start) × (m.core.number ≡ c)
 unfolding reply delivery_of
 delivered_starts b v m c e = done_starts b v m true (is_this_life v.life m.life) c e
+
+-- and such a message touches its core's present start
+pub delivered_touches : (b : BoardValue) (v : Values) (m : MessageValue) (c : ℕ)
+    → starts_core (effect_of b (asked.Deliver m) (reply b v (asked.Deliver m))) ≡ Some c
+    → touches b v m ≡ true
+unfolding reply delivery_of
+delivered_touches b v m c e = by (touches b v m) refl
+  where
+    by : (t : Bool) → touches b v m ≡ t → touches b v m ≡ true
+    by true is = is
+    by false is =
+        absurd (false≢true (done_stood b v m false (is_this_life v.life m.life) c
+        (ap (λ t. t && true) is) e))
 
 pub woken_starts : (b : BoardValue) (v : Values) (c halted k : ℕ)
     → starts_core (effect_of b (asked.Wake (record { number = c }) halted)

@@ -12,7 +12,7 @@ use Rattle.psci_world_spec.specs.declared.said.Record.{Record}
 use Rattle.psci_world_spec.specs.Histories.{acks, sent}
 use Rattle.psci_world_spec.specs.Legal.{asked_firmware}
 use Rattle.psci_world_spec.specs.Lists.{indexed}
-use Rattle.psci_port.specs.Waiting.{stands, waits}
+use Rattle.psci_port.specs.Waiting.{stands, touches, waits}
 use Rattle.psci_port.specs.Stages.{Standing, Entering, Normal, Leaving, Armed, Woken, is_armed}
 use Rattle.psci_port.specs.Stages.{looks, may_hold}
 use Rattle.psci_port.specs.Port.{Port, Act, Locks, Unlocks, Calls, Enters, Takes, Finishes}
@@ -57,7 +57,7 @@ May b p (Sleeps c) = (stage_at p c ≡ Armed) × LacksLock p c
 -- nor reset by itself while it has the lock
 May b p (Delivers k m) =
     IsSendable b m × (waits b p.values (words p) (asked.Deliver m) ≡ false)
-    × (m.kind ≡ kinds.Start → LacksLock p m.core.number)
+    × (touches b p.values m ≡ true → m.kind ≡ kinds.Start → LacksLock p m.core.number)
 May b p (Wakes c) = (c < cores b) × (stands p.values (words p) c ≡ true) × LacksLock p c
 May b p (Resets c) = (c < cores b) × LacksLock p c
 -- but for its own wake-up: a core that stands comes back, hears that with the lock in hand, and

@@ -1,3 +1,4 @@
+-- The first part of a Down is live where its generation is the number of the core's starts.
 use Rattle.std.proofs.Common.{◌≡◌, ◌∙◌, ap, nat_eq, not, subst, sym, Some, List}
 use Rattle.std.specs.Prelude.{slice_get}
 use Rattle.std.specs.Option.{option_copied}

@@ -1,3 +1,4 @@
+-- Once a port is at rest, its machine and the firmware agree.
 use Rattle.std.proofs.Common.{subst, sym}
 use Rattle.psci_ctl_spec.specs.Legal.{IsSendable}
 use Rattle.psci_ctl_spec.specs.psci_messages.Message.{MessageValue}

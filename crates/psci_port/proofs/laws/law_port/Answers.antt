@@ -1,3 +1,4 @@
+-- The history of a port's run is legal and safe, and begins anew after a reboot.
 use Rattle.psci_port.specs.Kept.{runs}
 use Rattle.psci_port.specs.Port.{state}
 use Rattle.psci_port.proofs.Rebooting.{are_rebooted}

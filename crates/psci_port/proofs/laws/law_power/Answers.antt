@@ -1,3 +1,4 @@
+-- Power goes under no core that executes.
 use Rattle.psci_port.proofs.Powering.{run_none_cut}
 use Rattle.psci_port.proofs.laws.law_power.Goals as goal
 

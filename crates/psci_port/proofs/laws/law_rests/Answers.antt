@@ -1,3 +1,4 @@
+-- Each act that is due leaves less to do; where none is due, the port is at rest.
 use Rattle.psci_port.specs.Port.{state}
 use Rattle.psci_port.proofs.Lowering.{run_lowers}
 use Rattle.psci_port.proofs.Mirrors.{IsMirror}
