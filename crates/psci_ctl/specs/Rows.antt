@@ -3,6 +3,7 @@ use Rattle.std.specs.Prelude.{◌≡◌, ℕ, ◌+◌, ◌<◌, ◌≤◌, ◌^�
 use Rattle.std.specs.Prelude.{[], length, slice_index_or, Option}
 use Rattle.psci_board.specs.Board.{BoardValue, cores, height, nodes}
 use Rattle.psci_board.specs.declared.node.Node.{Node}
+use Rattle.psci_messages.specs.psci_state.Ask.{power_down, running}
 use Rattle.psci_messages.specs.declared.part.Part.{Part}
 use Rattle.psci_board.specs.Board.{domain_of}
 use Rattle.psci_messages.specs.declared.start.Cause.TheVariants as causes
@@ -17,7 +18,7 @@ off_core = record { starts = 0; cause = causes.Boot }
 
 -- a domain that is powered down, and below which no core was started
 abbrev pub off_domain : DomainRow
-off_domain = record { depth = 3; starts = 0 }
+off_domain = record { depth = power_down; starts = 0 }
 
 -- what is kept of the core of this number
 abbrev pub core_row : List CoreRow → ℕ → CoreRow
@@ -37,7 +38,7 @@ with_core cores c row k = if k == c then row else core_row cores k
 
 -- a domain is fully on, after one more start below it
 abbrev pub path_on_once : DomainRow → DomainRow
-path_on_once row = record { depth = 0; starts = row.starts + 1 }
+path_on_once row = record { depth = running; starts = row.starts + 1 }
 
 -- the domains of a core's path below this level run, after one more start below them
 abbrev pub path_on_below : BoardValue → ℕ → List (List DomainRow) → ℕ → ℕ → ℕ → DomainRow

@@ -1,6 +1,7 @@
 //! What the power controller keeps of the power domains of one level.
 
 use psci_board::Memory;
+use psci_state::POWER_DOWN;
 use std::alloc::Global;
 use std::marker::Model;
 
@@ -16,7 +17,7 @@ pub struct DomainRow {
 impl DomainRow {
     /// The row of a domain that is powered down, below which no core was started.
     pub const OFF: DomainRow = DomainRow {
-        depth: 3,
+        depth: POWER_DOWN,
         starts: 0,
     };
 }

@@ -3,6 +3,7 @@
 use Rattle.std.specs.Prelude.{◌≡◌, ℕ, suc, ◌+◌, ◌<◌, ◌≤◌, List, length, slice_get, None}
 use Rattle.std.specs.Prelude.{Some}
 use Rattle.psci_board.specs.Board.{BoardValue, cores, height, up}
+use Rattle.psci_messages.specs.psci_state.Ask.{power_down}
 use Rattle.psci_messages.specs.declared.part.Part.{Part}
 use Rattle.psci_board.specs.Board.{domain_of}
 use Rattle.psci_ctl_spec.specs.Effects.{Effect, Nothing, Starts, Deepens, Ends, Begins}
@@ -20,7 +21,7 @@ pub record IsFront (b : BoardValue) (v : Values) (c : ℕ) (ps : List Part) : Ty
   -- the number of a part is its level
   pub level : (k : ℕ) (p : Part) → slice_get ps k ≡ Some p → p.level ≡ k
   pub least : (k : ℕ) (p : Part) → slice_get ps k ≡ Some p → 0 < p.depth
-  pub deepest : (k : ℕ) (p : Part) → slice_get ps k ≡ Some p → p.depth ≤ 3
+  pub deepest : (k : ℕ) (p : Part) → slice_get ps k ≡ Some p → p.depth ≤ power_down
   -- each is live
   pub live : (k : ℕ) (p : Part) → slice_get ps k ≡ Some p
       → p.generation ≡ starts_below b v.starts (domain_of b c k)
@@ -48,4 +49,4 @@ pub record AreValues (b : BoardValue) (v : Values) : Type 0 where
   pub first : (l : ℕ) → v.life ≡ Some l → 0 < l
   pub last : (l : ℕ) → v.life ≡ Some l → l ≤ b.lives
   -- no domain is deeper than power-down
-  pub deepest : (level place : ℕ) → v.depth level place ≤ 3
+  pub deepest : (level place : ℕ) → v.depth level place ≤ power_down

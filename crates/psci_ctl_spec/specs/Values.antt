@@ -4,6 +4,7 @@ use Rattle.std.specs.List.{sum_by}
 use Rattle.psci_board.specs.Board.{BoardValue, below}
 use Rattle.psci_board.specs.Paths.{is_on_path}
 use Rattle.psci_board.specs.declared.node.Node.{Node}
+use Rattle.psci_messages.specs.psci_state.Ask.{power_down, running}
 use Rattle.psci_messages.specs.declared.start.Cause.{Cause}
 use Rattle.psci_messages.specs.declared.start.Cause.TheVariants as causes
 
@@ -33,7 +34,7 @@ first_starts c = if c == 0 then 1 else 0
 
 -- the boot core's path is fully on, every other domain is powered down
 abbrev pub first_depth : BoardValue → ℕ → ℕ → ℕ
-first_depth b level place = if is_on_path b 0 level place then 0 else 3
+first_depth b level place = if is_on_path b 0 level place then running else power_down
 
 -- the only start so far is that of the boot core
 abbrev pub first_cause : ℕ → Cause

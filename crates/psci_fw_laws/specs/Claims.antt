@@ -2,6 +2,7 @@
 use Rattle.std.specs.Prelude.{◌≡◌, ◌<◌, ℕ, true, false, ◌⊎◌, ◌&&◌, ◌==◌, if◌then◌else◌, List}
 use Rattle.std.specs.Prelude.{slice_get, Option, None, Some}
 use Rattle.psci_board.specs.Board.{BoardValue, cores, has_node, up}
+use Rattle.psci_messages.specs.psci_state.Ask.{power_down}
 use Rattle.psci_messages.specs.declared.part.Part.{Part}
 use Rattle.psci_messages.specs.declared.kind.Kind.TheVariants.{Down}
 use Rattle.psci_messages.specs.Message.{MessageValue}
@@ -23,7 +24,7 @@ part_for b life level place m =
 pub record IsFromStart (b : BoardValue) (level place : ℕ) (p : Part) : Type 0 where
   pub node : has_node b (record { level = level; place = place }) ≡ true
   pub off_path : is_path_place b 0 level place ≡ false
-  pub is : p ≡ record { level = level; depth = 3; generation = 0 }
+  pub is : p ≡ record { level = level; depth = power_down; generation = 0 }
 
 -- A claim that a message made.
 pub record IsFromMessage (b : BoardValue) (life level place : ℕ) (p : Part)

@@ -5,6 +5,7 @@ use Rattle.std.specs.List.{list_all}
 use Rattle.std.specs.Prelude.{if◌then◌else◌}
 use Rattle.psci_fw_laws.specs.psci_board.Board.{BoardValue, below}
 use Rattle.psci_fw_laws.specs.psci_board.declared.node.Node.{Node}
+use Rattle.psci_fw_laws.specs.psci_messages.psci_state.Ask.{power_down}
 use Rattle.psci_fw_laws.specs.psci_messages.declared.part.Part.{Part}
 use Rattle.psci_fw_laws.specs.psci_messages.Message.{MessageValue}
 use Rattle.psci_world_spec.specs.psci_ctl_spec.Values.{starts_below}
@@ -48,9 +49,9 @@ asks_by OsInitiated b v n core depth = nat_le depth (ask b v core n.level) && al
 abbrev pub first_claims : BoardValue → ℕ → Node → List Claim
 first_claims b life n =
     if is_on_path b 0 n.level n.place then [] else record {
-      depth = 3;
+      depth = power_down;
       generation = 0;
-      asked = all_ask b (start_of_life b life) n 3 n.level;
+      asked = all_ask b (start_of_life b life) n power_down n.level;
     } ∷ []
 
 -- the claim of a part that a core sends, when the firmware's values are these once it has stopped

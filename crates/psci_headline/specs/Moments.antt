@@ -2,6 +2,7 @@
 use Rattle.std.specs.Prelude.{ℕ, Bool, true, false, ◌==◌, ◌&&◌, ◌||◌, not, List, [], ◌∷◌}
 use Rattle.std.specs.Prelude.{nat_lt}
 use Rattle.psci_fw_laws.specs.psci_board.Board.{BoardValue}
+use Rattle.psci_fw_laws.specs.psci_messages.psci_state.Ask.{power_down}
 use Rattle.psci_world_spec.specs.psci_ctl_spec.Replies.{is_this_life}
 use Rattle.psci_fw_laws.specs.psci_fw_spec.declared.outcome.Act.{Act}
 use Rattle.psci_fw_laws.specs.psci_fw_spec.declared.outcome.Act.TheVariants as acts
@@ -36,7 +37,7 @@ is_reported_off b past c =
 -- in this life of the power controller, the core is powered down
 abbrev pub is_powered_down : BoardValue → ℕ → List Record → ℕ → Bool
 is_powered_down b life past c =
-    is_this_life (controller_values b past).life life && depth_at b past 0 c == 3
+    is_this_life (controller_values b past).life life && depth_at b past 0 c == power_down
 
 -- a core goes on as one that entered: at an opening, or after its suspend
 abbrev pub enters_or_resumes_by : Act → Bool

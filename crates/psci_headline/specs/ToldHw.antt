@@ -8,6 +8,7 @@ use Rattle.psci_world_spec.specs.psci_abi.declared.request.Request.{Request}
 use Rattle.psci_world_spec.specs.psci_abi.declared.request.Request.TheVariants.{NodeHwState}
 use Rattle.psci_board.specs.Board.{BoardValue, node_of}
 use Rattle.psci_board.specs.declared.node.Node.{Node}
+use Rattle.psci_fw_laws.specs.psci_messages.psci_state.Ask.{power_down, retention, standby}
 use Rattle.psci_ctl_spec.specs.Replies.{is_this_life}
 use Rattle.psci_ctl_spec.specs.Values.{starts_below}
 use Rattle.psci_fw_laws.specs.psci_fw_spec.declared.outcome.Act.TheVariants as acts
@@ -37,11 +38,11 @@ told_hw b state event said = None
 
 -- powered down
 abbrev pub is_off_depth : ℕ → Bool
-is_off_depth depth = depth == 3
+is_off_depth depth = depth == power_down
 
 -- in standby or retention
 abbrev pub is_standby_depth : ℕ → Bool
-is_standby_depth depth = depth == 1 || depth == 2
+is_standby_depth depth = depth == standby || depth == retention
 
 -- in this life of the power controller, the sum of the starts below the domain is this, and the
 -- domain has such a depth

@@ -7,6 +7,7 @@ use Rattle.std.specs.List.{list_all, AllByRecursion}
 use Rattle.std.specs.Int.{w32, w64, to_be_bytes, from_be_bytes}
 use Rattle.psci_board.specs.declared.node.Core.{Core}
 use Rattle.psci_board.specs.Board.{BoardValue, cores, height}
+use Rattle.psci_messages.specs.psci_state.Ask.{power_down}
 use Rattle.psci_messages.specs.declared.part.Part.{Part}
 use Rattle.psci_link.specs.declared.frame.TheConstants.{FRAME_LEN, HEADER_LEN, PART_LEN}
 use Rattle.psci_messages.specs.declared.parts.TheConstants.{MOST_PARTS}
@@ -153,7 +154,7 @@ is_unused_after n bytes = list_all (λ byte. byte == 0) (drop (PART_LEN * n) (pa
 -- the first fault of the parts of a frame
 abbrev pub fault_of_parts : BoardValue → List Part → Option FrameFault
 fault_of_parts b parts =
-    if not (is_falling 3 parts) then Some faults.Depth
+    if not (is_falling power_down parts) then Some faults.Depth
     else (if not (is_climbing 0 parts && is_within (height b) parts) then Some faults.Level
     else None)
 

@@ -9,6 +9,7 @@ use crate::fault::FrameFault;
 use crate::frame::PART_LEN;
 use psci_board::Board;
 use psci_messages::{Part, Parts};
+use psci_state::POWER_DOWN;
 
 /// The first fault of the parts of a message on this board, if they have one.
 pub fn check_parts(board: &Board, parts: &[Part]) -> Result<(), FrameFault>
@@ -16,7 +17,7 @@ pub fn check_parts(board: &Board, parts: &[Part]) -> Result<(), FrameFault>
     ensures { MatchResult result (λ _. fault_of_parts board.now parts.now ≡ None)
         (λ fault. fault_of_parts board.now parts.now ≡ Some fault) }
 {
-    if !is_falling(3, parts) {
+    if !is_falling(POWER_DOWN, parts) {
         return Err(FrameFault::Depth);
     }
     if !has_levels(board.height(), parts) {

@@ -2,6 +2,7 @@
 use Rattle.std.specs.Prelude.{ℕ, zero, suc, ◌+◌, List, [], ◌∷◌, slice_index, nat_lt}
 use Rattle.std.specs.Prelude.{if◌then◌else◌}
 use Rattle.psci_board.specs.Board.{BoardValue, height}
+use Rattle.psci_state.specs.Ask.{power_down, running}
 use Rattle.psci_messages.specs.declared.part.Part.{Part}
 use Rattle.psci_messages.specs.View.{PowerView, domain_of, least_ask, generation, is_all_away}
 
@@ -36,8 +37,9 @@ own_wish ask level = slice_index ask level
 -- an OS-initiated CPU_OFF: power-down of the core, and of each higher domain where every core below
 -- is off or going off
 abbrev pub off_wish : BoardValue → PowerView → ℕ → ℕ → ℕ
-off_wish b v core zero = 3
-off_wish b v core (suc level) = if is_all_away b v (domain_of b core (suc level)) then 3 else 0
+off_wish b v core zero = power_down
+off_wish b v core (suc level) =
+    if is_all_away b v (domain_of b core (suc level)) then power_down else running
 
 -- The claims -----------------------------------------------------------------------------------
 

@@ -3,7 +3,7 @@ use Rattle.std.specs.Prelude.{◌≡◌, ℕ, ◌+◌, ◌<◌, ◌≤◌, true,
 use Rattle.std.specs.Prelude.{slice_get, slice_index}
 use Rattle.std.specs.List.{range_with_len}
 use Rattle.psci_board.specs.Board.{BoardValue, height, cores, up}
-use Rattle.psci_state.specs.Ask.{IsAsk}
+use Rattle.psci_state.specs.Ask.{IsAsk, power_down}
 use Rattle.psci_messages.specs.declared.part.Part.{Part}
 use Rattle.psci_messages.specs.View.{PowerView, domain_of, generation, least_ask, is_all_away}
 use Rattle.psci_messages.specs.Claim.{claims_of, platform_claims, own_claims, off_claims}
@@ -11,11 +11,11 @@ use Rattle.psci_messages.specs.LastCore.{last_core_check}
 
 -- What is counted over the cores below a core's domain of a level.
 pub record BelowLaws (b : BoardValue) (v : PowerView) (core level : ℕ) : Type 0 where
-  -- the least ask is the greatest depth, of 3 at most, that no core below undercuts
-  pub most : least_ask b v (domain_of b core level) ≤ 3
+  -- the least ask is the greatest depth that no core below undercuts
+  pub most : least_ask b v (domain_of b core level) ≤ power_down
   pub below : (c : ℕ) → c < cores b → up b level c ≡ up b level core
       → least_ask b v (domain_of b core level) ≤ v.ask c level
-  pub above : (depth : ℕ) → depth ≤ 3
+  pub above : (depth : ℕ) → depth ≤ power_down
       → ((c : ℕ) → c < cores b → up b level c ≡ up b level core → depth ≤ v.ask c level)
       → depth ≤ least_ask b v (domain_of b core level)
   -- every core below is off or going off where each one is
@@ -50,9 +50,9 @@ pub record AsksFall (b : BoardValue) (v : PowerView) : Type 0 where
 
 -- The claim of a core that stops in platform-coordinated mode.
 pub record PlatformLaws (b : BoardValue) (v : PowerView) (core : ℕ) : Type 0 where
-  -- no depth is above 3
+  -- no depth is above power-down
   pub most : (level : ℕ) (p : Part) → slice_get (platform_claims b v core) level ≡ Some p
-      → p.depth ≤ 3
+      → p.depth ≤ power_down
   -- no part is deeper than the one below it, where no core asks for more above than below
   pub falls : AsksFall b v → (level : ℕ) (p q : Part)
       → slice_get (platform_claims b v core) level ≡ Some p
@@ -74,9 +74,9 @@ pub record OwnLaws (b : BoardValue) (v : PowerView) (core : ℕ) (ask : List ℕ
   pub asked : (level : ℕ) → level < length (own_claims b v core ask) → 0 < slice_index ask level
   pub all : (level : ℕ) → level ≤ height b → 0 < slice_index ask level
       → level < length (own_claims b v core ask)
-  -- no depth is above 3, and none grows upwards
+  -- no depth is above power-down, and none grows upwards
   pub most : (level : ℕ) (p : Part) → slice_get (own_claims b v core ask) level ≡ Some p
-      → p.depth ≤ 3
+      → p.depth ≤ power_down
   pub falls : (level : ℕ) (p q : Part) → slice_get (own_claims b v core ask) level ≡ Some p
       → slice_get (own_claims b v core ask) (level + 1) ≡ Some q
       → q.depth ≤ p.depth
@@ -84,7 +84,8 @@ pub record OwnLaws (b : BoardValue) (v : PowerView) (core : ℕ) (ask : List ℕ
 -- The claim of a core that goes off in OS-initiated mode.
 pub record OffLaws (b : BoardValue) (v : PowerView) (core : ℕ) : Type 0 where
   -- power-down, of the core at least
-  pub deep : (level : ℕ) (p : Part) → slice_get (off_claims b v core) level ≡ Some p → p.depth ≡ 3
+  pub deep : (level : ℕ) (p : Part) → slice_get (off_claims b v core) level ≡ Some p
+      → p.depth ≡ power_down
   pub some : 0 < length (off_claims b v core)
   -- above the core, where every core below is off or going off
   pub off : (level c : ℕ) (p : Part) → slice_get (off_claims b v core) level ≡ Some p → 0 < level

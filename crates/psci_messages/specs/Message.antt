@@ -2,6 +2,7 @@
 use Rattle.std.specs.Prelude.{◌≡◌, ℕ, ◌+◌, ◌<◌, ◌≤◌, Bool, true, List, [], ◌∷◌, length, ◌&&◌, ◌==◌}
 use Rattle.std.specs.Prelude.{nat_lt, nat_le, slice_get, Some}
 use Rattle.psci_board.specs.declared.node.Core.{Core}
+use Rattle.psci_state.specs.Ask.{power_down}
 use Rattle.psci_messages.specs.declared.part.Part.{Part}
 use Rattle.psci_messages.specs.declared.parts.TheConstants.{MOST_PARTS}
 use Rattle.psci_messages.specs.declared.kind.Kind.{Kind}
@@ -50,7 +51,7 @@ pub record AreClaims (ps : List Part) : Type 0 where
   pub some : 0 < length ps
   pub most : length ps ≤ MOST_PARTS
   pub levels : is_climbing 0 ps ≡ true
-  pub depths : is_falling 3 ps ≡ true
+  pub depths : is_falling power_down ps ≡ true
 
 -- the same, said of each part
 pub record PartByPart (ps : List Part) : Type 0 where
@@ -58,7 +59,7 @@ pub record PartByPart (ps : List Part) : Type 0 where
   pub most : length ps ≤ MOST_PARTS
   pub level : (k : ℕ) (p : Part) → slice_get ps k ≡ Some p → p.level ≡ k
   pub least : (k : ℕ) (p : Part) → slice_get ps k ≡ Some p → 0 < p.depth
-  pub deepest : (k : ℕ) (p : Part) → slice_get ps k ≡ Some p → p.depth ≤ 3
+  pub deepest : (k : ℕ) (p : Part) → slice_get ps k ≡ Some p → p.depth ≤ power_down
   pub falls : (k : ℕ) (p q : Part) → slice_get ps k ≡ Some p → slice_get ps (k + 1) ≡ Some q
       → q.depth ≤ p.depth
 

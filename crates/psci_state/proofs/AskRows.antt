@@ -1,8 +1,13 @@
 -- Asks: the shape, the highest level, and the deepest ask, each at its limits and one beside.
 use Rattle.std.proofs.Common.{◌≡◌, true, false, [], ◌∷◌, refl}
 use Rattle.psci_state.specs.Ask.{deepest_of, highest_of, is_ask, is_deep}
+use Rattle.psci_state.specs.Ask.{power_down, retention, running, standby}
 use Rattle.psci_state.specs.PowerState.{asked, bits, id_of}
 use Rattle.psci_state.proofs.Tables.{◌⇒◌, Gives}
+
+-- from fully on to power-down
+depths : running ∷ standby ∷ retention ∷ power_down ∷ [] ≡ 0 ∷ 1 ∷ 2 ∷ 3 ∷ []
+depths = refl
 
 -- the shape, as its test says it (the law on power states has it as a statement, too)
 shapes : Gives is_ask

@@ -1,7 +1,7 @@
 -- What is kept of cores and of power domains.
 use Rattle.std.specs.Prelude.{ℕ, Bool, true, false, List, [], length, slice_index}
 use Rattle.std.specs.Prelude.{slice_index_or, unwrap_or, nat_le, nat_lt, if◌then◌else◌}
-use Rattle.psci_state.specs.Ask.{IsAsk}
+use Rattle.psci_state.specs.Ask.{IsAsk, power_down, running}
 use Rattle.psci_state.specs.declared.cores.CoreState.{CoreState}
 use Rattle.psci_state.specs.declared.cores.Change.{Change}
 use Rattle.psci_state.specs.declared.cores.Activity.{Activity}
@@ -11,9 +11,9 @@ use Rattle.psci_state.specs.declared.cores.Activity.TheVariants.{Active, Suspend
 
 -- the depth that a core asks of its domain of this level, where the board has such a level
 abbrev pub asks : Activity → ℕ → ℕ
-asks Active level = 0
+asks Active level = running
 asks (Suspended depths) level = slice_index depths level
-asks Away level = 3
+asks Away level = power_down
 
 -- whether a core is running or pending
 abbrev pub is_active : Activity → Bool

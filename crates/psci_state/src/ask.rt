@@ -12,8 +12,11 @@ use std::marker::Model;
 /// The levels of an ask: the core's, 0, and three above it.
 const LEVELS: usize = 4;
 
+/// The depth of standby, the least of a core that stops.
+const STANDBY: u8 = 1;
+
 /// The deepest depth, power-down.
-const POWER_DOWN: u8 = 3;
+pub const POWER_DOWN: u8 = 3;
 
 /// The depths that a suspending core asks for, one for each level from 0 to 3.
 ///
@@ -165,5 +168,5 @@ fn is_ask(depths: [u8; LEVELS]) -> bool
     ensures { result ≡ is_ask depths }
 {
     let [core, first, second, third] = depths;
-    (1..=POWER_DOWN).contains(&core) && first <= core && second <= first && third <= second
+    (STANDBY..=POWER_DOWN).contains(&core) && first <= core && second <= first && third <= second
 }

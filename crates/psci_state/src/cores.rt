@@ -3,7 +3,7 @@
 ghost use Rattle.std.specs.Prelude.{◌≡◌, ◌≤◌, ◌<◌, ◌^◌};
 ghost use Rattle.psci_state.specs.Cores.{asks, core_changed, is_active, is_away};
 
-use crate::ask::Ask;
+use crate::ask::{Ask, POWER_DOWN};
 
 /// What a core does, as its power domains see it.
 #[derive(Clone, Copy)]
@@ -60,7 +60,7 @@ impl CoreState {
         match &self.activity {
             Activity::Active => 0,
             Activity::Suspended(ask) => ask.depth(level),
-            Activity::Away => 3,
+            Activity::Away => POWER_DOWN,
         }
     }
 

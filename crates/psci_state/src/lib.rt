@@ -18,7 +18,7 @@ mod fault;
 mod fields;
 mod law;
 
-pub use ask::Ask;
+pub use ask::{Ask, POWER_DOWN};
 pub use cores::{Activity, Change, CoreState, NEVER_STARTED};
 pub use fault::BadState;
 pub use law::law_power_states;

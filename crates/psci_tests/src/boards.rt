@@ -1,5 +1,5 @@
-//! Boards are read and copied, and the layers stand on each, where there is memory. `tests/growths`
-//! refuses each growth in turn.
+//! Boards are read and copied, and the layers stand on each, where there is memory.
+//! `tests/program/growths` refuses each growth in turn.
 
 use psci_board::Board;
 use psci_ctl::Controller;

@@ -3,6 +3,7 @@ use Rattle.std.specs.Prelude.{◌≡◌, ℕ, ◌+◌, ◌-◌, ◌<◌, ◌≤�
 use Rattle.std.specs.Prelude.{map, replicate, slice_set, slice_index_or, ◌==◌, if◌then◌else◌}
 use Rattle.psci_board.specs.declared.node.Node.{Node}
 use Rattle.psci_board.specs.Board.{size_below, group_of, place_above}
+use Rattle.psci_state.specs.Ask.{power_down}
 use Rattle.psci_state.specs.declared.cores.Activity.{Activity}
 use Rattle.psci_state.specs.declared.cores.Activity.TheVariants.{Active, Suspended, Away}
 pub use Rattle.psci_state.specs.Cores.{core_changed}
@@ -72,13 +73,13 @@ with_confirmed t n = record t {
 abbrev pub rows_with_depth : List ℕ → ℕ → List (List ℕ)
 rows_with_depth counts depth = map (λ count. replicate count depth) counts
 
--- every core off and never started, every domain granted depth 3, which is confirmed
+-- every core off and never started, every domain granted power-down, which is confirmed
 abbrev pub all_off : List (List ℕ) → TreeValue
 all_off levels = record {
   levels = levels;
   cores = replicate (size_below levels) never_started;
-  granted = rows_with_depth (level_sizes levels) 3;
-  confirmed = rows_with_depth (level_sizes levels) 3;
+  granted = rows_with_depth (level_sizes levels) power_down;
+  confirmed = rows_with_depth (level_sizes levels) power_down;
 }
 
 -- the start of a life: the boot core, core 0, is pending, and all else is off
@@ -89,7 +90,7 @@ start_of_life levels = made_pending (all_off levels) 0
 
 -- a depth that may be granted to a domain: no child is granted less, and the parent no more
 pub record MayGrant (t : TreeValue) (n : Node) (depth : ℕ) : Type 0 where
-  pub deepest : depth ≤ 3
+  pub deepest : depth ≤ power_down
   pub children : (core : ℕ) → core < size_below t.levels → 0 < n.level
       → place_above t.levels n.level core ≡ n.place
       → depth ≤ granted_at t (n.level - 1) (place_above t.levels (n.level - 1) core)

@@ -1,6 +1,7 @@
 -- What is counted over the cores below a power domain, and what holds of a tree.
 use Rattle.std.specs.Prelude.{◌≡◌, ℕ, ◌+◌, ◌<◌, ◌≤◌, List, [], ◌∷◌, length, map}
 use Rattle.std.specs.List.{sum_by, count_by}
+use Rattle.psci_state.specs.Ask.{power_down}
 pub use Rattle.psci_state.specs.Ask.{least}
 pub use Rattle.psci_state.specs.Cores.{TreeValue, IsActivity, asks, is_active, is_away}
 pub use Rattle.psci_state.specs.Cores.{never_started, state_at, ask_at, known_at, is_active_at}
@@ -40,8 +41,8 @@ pub record IsDomainTree (t : TreeValue) : Type 0 where
   pub confirmed : map length t.confirmed ≡ level_sizes t.levels
   -- a suspended core asks what a power state can ask
   pub asks : (core : ℕ) → IsActivity (state_at t core).activity
-  -- no granted depth is above 3
-  pub deepest : (level place : ℕ) → granted_at t level place ≤ 3
+  -- no granted depth is above power-down
+  pub deepest : (level place : ℕ) → granted_at t level place ≤ power_down
   -- on each core's path, no domain is granted more than the one below it
   pub nested : (core level : ℕ) → core < size_below t.levels → level < length t.levels
       → granted_at t (level + 1) (place_above t.levels (level + 1) core)

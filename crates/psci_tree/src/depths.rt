@@ -2,6 +2,8 @@
 
 ghost use Rattle.std.specs.Prelude.{◌≡◌, ◌==◌, if◌then◌else◌};
 
+use psci_state::POWER_DOWN;
+
 /// What a power domain was granted, and what of it is confirmed.
 #[derive(Clone, Copy)]
 pub struct Depths {
@@ -18,10 +20,10 @@ impl Depths {
         confirmed: 0,
     };
 
-    /// Depth 3 is granted, which is confirmed.
+    /// Power-down is granted, which is confirmed.
     pub const DEEPEST: Depths = Depths {
-        granted: 3,
-        confirmed: 3,
+        granted: POWER_DOWN,
+        confirmed: POWER_DOWN,
     };
 
     /// This depth is granted from now on. Another one than before is not confirmed.

@@ -14,7 +14,7 @@ use crate::way::Way;
 use psci_board::{Board, Core, Memory, Node};
 use std::alloc::Global;
 
-/// Depth 3 for each domain of a board, level by level, which is confirmed.
+/// Power-down for each domain of a board, level by level, which is confirmed.
 pub fn deepest_rows(alloc: Global, board: &Board) -> Result<Vec<Vec<Depths>>, Memory>
     ensures granted { IfOk result (λ rows. granted_of (map (λ v. v.items) rows.items)
         ≡ rows_with_depth (level_sizes board.now.levels) 3) }

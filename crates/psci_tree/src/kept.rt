@@ -5,7 +5,7 @@ ghost use Rattle.psci_tree.specs.Recount.{never_started};
 ghost use Rattle.psci_tree.specs.Kept.{IsPart, Keeps, kept_exchanged, kept_together, lows_told};
 
 use psci_board::MOST_ON_PATH;
-use psci_state::CoreState;
+use psci_state::{CoreState, POWER_DOWN};
 
 /// What is kept of several cores, so that they need not be counted again.
 #[derive(Clone, Copy)]
@@ -28,7 +28,7 @@ impl Kept {
         ensures { Keeps result [] }
     {
         Kept {
-            lows: [3; MOST_ON_PATH],
+            lows: [POWER_DOWN; MOST_ON_PATH],
             known: 0,
             cores: 0,
             active: 0,
@@ -55,7 +55,7 @@ impl Kept {
         ensures { Keeps result (replicate count never_started) }
     {
         Kept {
-            lows: [3; MOST_ON_PATH],
+            lows: [POWER_DOWN; MOST_ON_PATH],
             known: 0,
             cores: count,
             active: 0,

@@ -1,3 +1,4 @@
+-- What each thread is lent may be shared between threads.
 use denote.Exit as Exit
 use denote.Param.{param}
 use denote.Param.Send.{param_sync, arg_sync}

@@ -1,3 +1,4 @@
+-- Level by level from the top, the fields of the word name a child, or nothing is named.
 use Rattle.psci_board.proofs.Terms.{◌*◌, ◌+◌, ◌-◌, ◌/◌, ◌<◌, ◌^◌, ◌∙◌, ◌≡◌, [], ap, arith, child_in}
 use Rattle.psci_board.proofs.Terms.{drop, get_or, get_or_default, index_named, length, List}
 use Rattle.psci_board.proofs.Terms.{nat_tests, Some, subst, sum, sym, to_le_bytes, w64, ℕ}

@@ -1,3 +1,4 @@
+-- The fields from this level up name the place so far.
 use Rattle.psci_board.proofs.Terms.{◌*◌, ◌/◌, ◌^◌, ◌≡◌, ◌≤◌, drop, index_named, Some}
 use Rattle.psci_board.proofs.affinity.place_of.Given as goal
 

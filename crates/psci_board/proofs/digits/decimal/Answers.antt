@@ -1,3 +1,4 @@
+-- Digit by digit, until none is left or the number has more than 64 bits.
 use Rattle.psci_board.proofs.Terms.{arith, digits_value_more, nat_tests}
 use Rattle.psci_board.proofs.Values.{one_more, no_more, too_large, fits, fits_not}
 use Rattle.psci_board.proofs.digits.decimal.Goals as goal

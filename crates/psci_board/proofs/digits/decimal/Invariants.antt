@@ -1,3 +1,4 @@
+-- The value is that of the digits so far.
 use Rattle.psci_board.proofs.Terms.{◌<◌, ◌^◌, ◌≡◌, ◌≤◌, digits_value, is_ascii_digit, prefix_len}
 use Rattle.psci_board.proofs.Terms.{take}
 use Rattle.psci_board.proofs.digits.decimal.Given as goal

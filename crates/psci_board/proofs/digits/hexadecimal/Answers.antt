@@ -1,3 +1,4 @@
+-- Digit by digit, until none is left or there are more than 16.
 use Rattle.psci_board.proofs.Terms.{◌≡◌, ◌≤◌, arith, common_steps, digit_value, digits_value_more}
 use Rattle.psci_board.proofs.Terms.{get_or, is_ascii_hexdigit, nat_tests, prefix_len}
 use Rattle.psci_board.proofs.Values.{one_more, no_more, all_of_them, fifteen_fit, few, too_many}

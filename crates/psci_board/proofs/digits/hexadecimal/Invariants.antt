@@ -1,3 +1,4 @@
+-- The value is that of the digits so far, of which there are 16 at most.
 use Rattle.psci_board.proofs.Terms.{◌≡◌, ◌≤◌, digits_value, is_ascii_hexdigit, prefix_len, take}
 use Rattle.psci_board.proofs.digits.hexadecimal.Given as goal
 

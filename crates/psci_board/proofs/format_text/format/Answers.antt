@@ -1,3 +1,4 @@
+-- What is not empty is a format where it is spelled so.
 use Rattle.std.specs.Str.{bytes_eq}
 use Rattle.psci_board.proofs.Terms.{◌∙◌, ◌≡◌, ap, codes, List, refl, sym, true, ℕ}
 use Rattle.psci_board.proofs.format_text.format.Goals.{then-is_empty, else-is_empty}

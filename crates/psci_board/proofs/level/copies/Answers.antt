@@ -1,3 +1,4 @@
+-- Each round copies one level more, and the last one the last level.
 use Rattle.psci_board.proofs.Terms.{arith, nat_tests, take_all}
 use Rattle.std.proofs.lemmas.List.{take_more}
 use Rattle.psci_board.proofs.level.copies.Goals as goal

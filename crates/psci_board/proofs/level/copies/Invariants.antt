@@ -1,3 +1,4 @@
+-- The levels so far are copied.
 use Rattle.psci_board.proofs.Terms.{◌≡◌, take}
 use Rattle.psci_board.proofs.level.copies.Given as goal
 

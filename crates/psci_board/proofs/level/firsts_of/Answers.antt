@@ -1,3 +1,4 @@
+-- The first place of one node more is the sum of the counts before it.
 use Rattle.psci_board.proofs.Terms.{◌++◌, ◌+◌, ◌<◌, ◌∷◌, ◌≡◌, [], arith, cases_lt, get_or}
 use Rattle.psci_board.proofs.Terms.{get_or_append_left, get_or_push, length, length_push, List}
 use Rattle.psci_board.proofs.Terms.{nat_tests, sum, sum_by_more, take, ℕ}

@@ -1,3 +1,4 @@
+-- Each node so far has its first place, which is the sum of the counts before it.
 use Rattle.psci_board.proofs.Terms.{◌<◌, ◌≡◌, get_or, length, sum, take, ℕ}
 use Rattle.psci_board.proofs.level.firsts_of.Given as goal
 

@@ -1,3 +1,4 @@
+-- The parents so far are the groups that their places are in.
 use Rattle.psci_board.proofs.Terms.{◌+◌, ◌<◌, ◌≡◌, get_or, group_of, length, sum, take, ℕ}
 use Rattle.psci_board.proofs.level.parents_of.Given as goal
 

@@ -1,3 +1,4 @@
+-- The path so far and the nodes from here up are the whole path.
 use Rattle.psci_board.proofs.Terms.{◌++◌, ◌<◌, ◌≡◌, drop, IsTree, length, nodes_up, size_below}
 use Rattle.psci_board.proofs.path.path_of.Given as goal
 

@@ -1,3 +1,4 @@
+-- The summary so far and the ranges that are left give that of all, and fewer bytes are left.
 use Rattle.psci_board.proofs.Terms.{◌≡◌, length, more_at, range_at, with_ranges}
 use Rattle.psci_board.proofs.range_text.ranges.Given as goal
 

@@ -1,3 +1,4 @@
+-- Each call looks at fewer levels.
 use Rattle.psci_board.proofs.Terms.{length}
 use Rattle.psci_board.proofs.span.+first_core.Given as goal
 

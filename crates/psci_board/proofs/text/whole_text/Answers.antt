@@ -1,3 +1,4 @@
+-- The text is read part by part, and its format at last.
 use Rattle.psci_board.proofs.Terms.{◌∙◌, sym}
 use Rattle.psci_board.proofs.Fronts.{kept_text, some, none}
 use Rattle.psci_board.proofs.text.whole_text.Goals as goal

@@ -1,3 +1,4 @@
+-- What is spelled is read again, and what is read is spelled so.
 use Rattle.psci_board.proofs.SpelledText.{text_again, text_takes}
 use Rattle.psci_board.proofs.text_laws.law_board_text.Goals as goal
 

@@ -1,3 +1,4 @@
+-- A group is read number by number, up to the bracket that closes it.
 use Rattle.psci_board.proofs.Terms.{◌∙◌, ◌∷◌, ◌≡◌, ap, arith, length, more_at, number_at, refl}
 use Rattle.psci_board.proofs.Terms.{Some, sym}
 use Rattle.psci_board.specs.Summary.{with_numbers}

@@ -1,3 +1,4 @@
+-- The numbers so far and those that are left give what is read of the group.
 use Rattle.psci_board.proofs.Terms.{◌+◌, ◌≡◌, ◌≤◌, length, more_at, number_at}
 use Rattle.psci_board.specs.Summary.{with_numbers}
 use Rattle.psci_board.proofs.tree_text.group.Given as goal

@@ -1,3 +1,4 @@
+-- A list is read member by member, up to the bracket that closes it.
 use Rattle.psci_board.proofs.Terms.{nat_tests}
 use Rattle.psci_board.proofs.Terms.{◌∙◌, ◌∷◌, ◌≡◌, ap, arith, member_at, more_at, refl, sym}
 use Rattle.psci_board.specs.Summary.{with_members}

@@ -1,3 +1,4 @@
+-- The members so far and those that are left give what is read of the list.
 use Rattle.psci_board.proofs.Terms.{◌≡◌, length, member_at, more_at}
 use Rattle.psci_board.specs.Summary.{with_members}
 use Rattle.psci_board.proofs.tree_text.members.Given as goal

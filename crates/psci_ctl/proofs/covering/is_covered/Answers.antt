@@ -1,3 +1,4 @@
+-- A domain is covered where no child of it is less deep.
 use Rattle.std.proofs.Common.{◌<◌, arith, ap, sym}
 use Rattle.psci_board.specs.Board.{children}
 use Rattle.psci_ctl.specs.declared.level.DomainRow.{DomainRow}

@@ -1,3 +1,4 @@
+-- No child so far is less deep.
 use Rattle.std.proofs.Common.{ℕ, ◌+◌, ◌-◌, ◌<◌, ◌≤◌}
 use Rattle.psci_board.specs.Board.{first_child}
 use Rattle.psci_ctl.specs.Rows.{depth_in}

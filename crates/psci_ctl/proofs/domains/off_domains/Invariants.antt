@@ -1,3 +1,4 @@
+-- Each level so far has a row of its domains.
 use Rattle.std.proofs.Common.{◌≡◌, ℕ, ◌<◌, [], get_or, length}
 use Rattle.psci_board.specs.Board.{nodes}
 use Rattle.psci_ctl.proofs.domains.off_domains.Given as goal

@@ -1,3 +1,4 @@
+-- One level more of the core's path is fully on.
 use Rattle.std.proofs.Common.{◌≡◌, ℕ, ◌+◌, ◌≤◌, ◌<◌, [], length, get_or, ap, sym, ◌∙◌, arith, subst}
 use Rattle.std.proofs.lemmas.Option.{get_or_from_slice_get}
 use Rattle.psci_board.specs.declared.node.Node.{Node}

@@ -1,3 +1,4 @@
+-- The path is fully on below this level, and the rest is as it was.
 use Rattle.std.proofs.Common.{◌≡◌, ℕ}
 use Rattle.psci_ctl.specs.Rows.{HasRows, domain_at, path_on_below}
 use Rattle.psci_ctl.proofs.domains.run_path.Given as goal

@@ -1,3 +1,4 @@
+-- The levels so far are off, and the others are as they were.
 use Rattle.std.proofs.Common.{◌≡◌, ℕ, ◌<◌, ◌≤◌, [], get_or, length, replicate}
 use Rattle.psci_ctl.specs.Rows.{off_domain}
 use Rattle.psci_ctl.proofs.domains.turn_off.Given as goal

@@ -1,3 +1,4 @@
+-- Where every domain is off, the start of the boot core begins a life.
 use Rattle.std.proofs.Common.{List, length, ap, sym, ◌∙◌, subst, arith}
 use Rattle.psci_messages.specs.declared.start.Cause.TheVariants as causes
 use Rattle.psci_ctl_spec.specs.Changes.{with_start}

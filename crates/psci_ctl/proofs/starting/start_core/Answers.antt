@@ -1,3 +1,4 @@
+-- The sums of starts on the core's path have room for one more, and get it.
 use Rattle.std.proofs.Common.{◌∙◌, arith}
 use Rattle.std.proofs.lemmas.List.{length-set}
 use Rattle.psci_board.specs.Board.{up}

@@ -1,3 +1,4 @@
+-- The values keep their limits, by each effect and after every legal history.
 use Rattle.psci_ctl_spec.proofs.Kept.{change_kept, first_kept, legal_kept, reply_kept}
 use Rattle.psci_ctl_spec.proofs.laws.law_limits.Goals as goal
 

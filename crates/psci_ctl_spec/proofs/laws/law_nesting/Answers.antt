@@ -1,3 +1,4 @@
+-- No domain is deeper than the one below it, after each effect and every legal history.
 use Rattle.psci_ctl_spec.proofs.Nested.{all_nested, change_nested}
 use Rattle.psci_ctl_spec.proofs.laws.law_nesting.Goals as goal
 

@@ -1,3 +1,4 @@
+-- To each list of calls there is one history.
 use Rattle.psci_ctl_spec.proofs.OneMore.{one_history, some_history}
 use Rattle.psci_ctl_spec.proofs.laws.law_one_reply.Goals as goal
 

@@ -1,3 +1,4 @@
+-- A part that is live no more is never live again.
 use Rattle.psci_ctl_spec.proofs.Past.{never_again}
 use Rattle.psci_ctl_spec.proofs.laws.law_past.Goals as goal
 

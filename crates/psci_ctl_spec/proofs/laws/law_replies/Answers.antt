@@ -1,3 +1,4 @@
+-- The one reply has the effect that may follow.
 use Rattle.psci_ctl_spec.proofs.Follows.{follows}
 use Rattle.psci_ctl_spec.proofs.laws.law_replies.Goals as goal
 

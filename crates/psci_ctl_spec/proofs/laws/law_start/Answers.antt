@@ -1,3 +1,4 @@
+-- The lemmas on the start of a life.
 use Rattle.psci_ctl_spec.proofs.Sums.{start_laws}
 use Rattle.psci_ctl_spec.proofs.laws.law_start.Goals as goal
 

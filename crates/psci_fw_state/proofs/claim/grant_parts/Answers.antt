@@ -1,3 +1,4 @@
+-- Level by level, each part is granted to the domain on the core's path.
 use Rattle.psci_fw_state.proofs.Words.{◌∙◌, ◌≡◌, ◌≤◌, ap, arith, get_or, granted_at, HasNodeIn}
 use Rattle.psci_fw_state.proofs.Words.{height, is_confirmed_at, length, Node, Part, slice_get}
 use Rattle.psci_fw_state.proofs.Words.{slice_get-get_or, Some, up}

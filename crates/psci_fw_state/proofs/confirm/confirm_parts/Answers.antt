@@ -1,3 +1,4 @@
+-- Level by level, each part is confirmed of the domain on the core's path.
 use Rattle.psci_fw_state.proofs.Words.{◌&&◌, ◌<◌, ◌==◌, ◌∙◌, ◌≡◌, ◌≤◌, ap, arith, Bool, cond}
 use Rattle.psci_fw_state.proofs.Words.{get_or, granted_at, HasNodeIn, height, is_confirmed_at}
 use Rattle.psci_fw_state.proofs.Words.{is_made_at, length, nat_lt, Node, Part, slice_get-get_or}

@@ -1,3 +1,4 @@
+-- One level more has no count.
 use Rattle.psci_fw_state.proofs.Words.{◌+◌, ◌<◌, ◌∙◌, ◌≡◌, [], ap, arith, get_or, get_or-map}
 use Rattle.psci_fw_state.proofs.Words.{length, length-map, List, map, map-set, no_cores, replicate}
 use Rattle.psci_fw_state.proofs.Words.{set, StatusCounts, suc, sym, ℕ}

@@ -1,3 +1,4 @@
+-- After the loop no level has a count.
 use Rattle.psci_fw_state.proofs.Words.{◌∙◌, arith, length-map, map}
 use Rattle.psci_fw_state.proofs.KeptCounts.{none_kept}
 use Rattle.psci_fw_state.proofs.counts.no_counts.Goals as goal

@@ -1,3 +1,4 @@
+-- Level by level, the domain on the core's path is counted anew.
 use Rattle.psci_fw_state.proofs.Words.{◌<◌, ◌∙◌, ◌≡◌, ap, arith, BoardValue, CoreRow, eq-eqb}
 use Rattle.psci_fw_state.proofs.Words.{get_or, get_or_default, length, List, map, ne_eqb, Node}
 use Rattle.psci_fw_state.proofs.Words.{off_row, one_core, refl, Status, status_at, updated, ℕ}

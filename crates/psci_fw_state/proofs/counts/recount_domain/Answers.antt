@@ -1,3 +1,4 @@
+-- The counts of one domain are those with the core's new status.
 use Rattle.std.specs.Vec.{with_item}
 use Rattle.psci_fw_state.proofs.Words.{◌-◌, ◌<◌, ◌∙◌, ◌≡◌, [], ap, arith, counts_at, get_or}
 use Rattle.psci_fw_state.proofs.Words.{get_or-map, get_or_default, length, List, map, map-set}

@@ -1,3 +1,4 @@
+-- Without a count every core is off, and the boot core is then counted.
 use Rattle.psci_fw_state.proofs.Words.{map, Off, status_at, updated}
 use Rattle.psci_fw_state.proofs.Begun.{off_but_boot, some_below}
 use Rattle.psci_fw_state.proofs.KeptCounts.{cleared, same_counts}

@@ -1,3 +1,4 @@
+-- The rows so far are those of the start of a life.
 use Rattle.psci_fw_state.proofs.Words.{◌<◌, ◌≡◌, first_row, length, row_at, ℕ}
 use Rattle.psci_fw_state.proofs.row.first_rows.Given as goal
 

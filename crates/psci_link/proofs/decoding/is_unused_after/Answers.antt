@@ -1,3 +1,4 @@
+-- The fields after the used ones are zero.
 use Rattle.std.proofs.Common.{drop-drop, refl}
 use Rattle.psci_link.proofs.decoding.is_unused_after.Goals as goal
 

@@ -1,9 +1,9 @@
+-- The last parts are written.
 use Rattle.std.proofs.Common.{◌≡◌, ◌+◌, ◌-◌, ◌*◌, ◌≤◌, ◌++◌, drop, length}
 use Rattle.std.specs.Prelude.{flat_map}
 use Rattle.psci_script.specs.Text.{part_text}
 use Rattle.psci_script.proofs.answer_line.write_parts.Given as goal
 
--- the last parts are written
 abbrev pub invariant-loop-left : goal.invariant-loop-left
 invariant-loop-left l = (l.left ≤ length l.parts)
     × (l.start ≤ l.fn.end)

@@ -1,3 +1,4 @@
+-- Digit by digit from the last, until nothing is left of the number.
 use Rattle.std.proofs.lemmas.Bool.Decides.{nat_tests}
 use Rattle.std.proofs.Common.{◌≡◌, ◌+◌, ◌-◌, drop, subst, arith}
 use Rattle.psci_script.proofs.HexDigits.{IsUnderWay, all_done, never_none, none_yet, one_left}

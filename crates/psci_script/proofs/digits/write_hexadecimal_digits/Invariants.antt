@@ -1,8 +1,8 @@
+-- The last digits are written.
 use Rattle.std.proofs.Common.{◌-◌, ◌+◌, ◌≤◌, drop}
 use Rattle.psci_script.proofs.HexDigits.{IsUnderWay}
 use Rattle.psci_script.proofs.digits.write_hexadecimal_digits.Given as goal
 
--- the last digits are written
 abbrev pub invariant-loop-left : goal.invariant-loop-left
 invariant-loop-left l = (l.left ≤ 16)
     × IsUnderWay l.fn.number (drop l.fn.end l.fn.room) l.left l.rest

@@ -1,3 +1,4 @@
+-- The bytes hold a whole line, too long a one, or a part of one.
 use Rattle.std.proofs.Common.{arith, sym}
 use Rattle.std.proofs.lemmas.Bool.Decides.{nat_tests}
 use Rattle.psci_script.proofs.Cutting.{whole_cut, part_cut, none_cut}

@@ -1,3 +1,4 @@
+-- The last line needs no line feed.
 use Rattle.std.proofs.Common.{rules}
 use Rattle.psci_script.proofs.lines.last_line.Goals as goal
 

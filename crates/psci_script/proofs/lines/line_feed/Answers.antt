@@ -1,3 +1,4 @@
+-- The first line feed among as many bytes as a line may have.
 use Rattle.std.proofs.Common.{arith}
 use Rattle.std.proofs.lemmas.Bool.Decides.{nat_tests}
 use Rattle.std.proofs.lemmas.List.{take_min}

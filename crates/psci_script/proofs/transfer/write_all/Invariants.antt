@@ -1,3 +1,4 @@
+-- The bytes so far are written.
 use Rattle.std.proofs.Common.{◌≡◌, ◌-◌, ◌≤◌, length, take}
 use Rattle.std.specs.Io.KnownBytes.{Appends}
 use Rattle.psci_script.proofs.transfer.write_all.Given as goal

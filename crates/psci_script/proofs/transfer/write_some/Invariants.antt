@@ -1,3 +1,4 @@
+-- The sink was only interrupted so far.
 use Rattle.std.proofs.Common.{◌≡◌, ◌<◌, ◌≤◌}
 use Rattle.std.specs.Io.KnownBytes.{Keeps}
 use Rattle.psci_script.proofs.transfer.write_some.Given as goal

@@ -1,3 +1,4 @@
+-- Each call looks at fewer passes.
 use Rattle.std.proofs.Common.{length}
 use Rattle.psci_shared.proofs.agreement.+all_apart.Given as goal
 

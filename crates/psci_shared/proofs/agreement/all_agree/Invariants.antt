@@ -1,3 +1,4 @@
+-- The passes that are left agree exactly where all do.
 use Rattle.std.proofs.Common.{drop}
 use Rattle.std.specs.Prelude.{◌↔◌}
 use Rattle.psci_shared.specs.Agree.{AllAgree}

@@ -1,3 +1,4 @@
+-- The items that are left tell the same as all.
 use Rattle.std.proofs.Common.{◌≡◌, drop}
 use Rattle.psci_shared.specs.Places.{not_below, places}
 use Rattle.psci_shared.proofs.agreement.not_below.Given as goal

@@ -1,3 +1,4 @@
+-- Each call meets fewer passes.
 use Rattle.std.proofs.Common.{length}
 use Rattle.psci_shared.proofs.gather.+meet_all.Given as goal
 

@@ -1,3 +1,4 @@
+-- The lemmas on a core's own calls.
 use Rattle.psci_shared.proofs.OwnCalls as own
 use Rattle.psci_shared.proofs.laws.law_own_calls.Goals as goal
 

@@ -1,3 +1,4 @@
+-- The lemmas on polls.
 use Rattle.psci_shared.proofs.Polling as polling
 use Rattle.psci_shared.proofs.laws.law_polls.Goals as goal
 

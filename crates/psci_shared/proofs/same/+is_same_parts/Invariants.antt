@@ -1,3 +1,4 @@
+-- Each call looks at fewer parts.
 use Rattle.std.proofs.Common.{length}
 use Rattle.psci_shared.proofs.same.+is_same_parts.Given as goal
 

@@ -1,3 +1,4 @@
+-- Each call counts fewer passes.
 use Rattle.std.proofs.Common.{length}
 use Rattle.psci_shared.proofs.tally.+count_all.Given as goal
 

@@ -1,3 +1,4 @@
+-- After a call the words of all cores have what the book says.
 use Rattle.std.proofs.Common.{ℕ, ◌∙◌, sym, subst, rules}
 use Rattle.std.specs.Prelude.{◌<◌}
 use Rattle.psci_fw.specs.Seen.{seen}

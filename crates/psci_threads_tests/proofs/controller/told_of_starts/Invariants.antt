@@ -1,3 +1,4 @@
+-- The board, the words, the room and the ledger of the test.
 use Rattle.psci_shared.specs.Names.{no_table}
 use Rattle.psci_threads_tests.proofs.controller.told_of_starts.Given as goal
 

@@ -1,3 +1,4 @@
+-- The board, the words, the room and the ledger of the test.
 use Rattle.psci_status.specs.Seats.{table}
 use Rattle.psci_threads_tests.proofs.fresh.entries_of_firmware.Given as goal
 

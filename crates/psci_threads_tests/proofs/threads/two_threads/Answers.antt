@@ -1,3 +1,4 @@
+-- What the first thread takes along may go to a thread.
 use denote.Exit as Exit
 use denote.Param.{param}
 use denote.Param.Send.{param_send, arg_send}

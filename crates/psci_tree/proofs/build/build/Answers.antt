@@ -1,3 +1,4 @@
+-- Level by level, the domains of one become the children of the next, up to the system.
 use Rattle.psci_tree.proofs.Words.{◌+◌, ◌<◌, ◌∙◌, ◌≡◌, ◌≤◌, [], AllPass, ap, AreKept, arith}
 use Rattle.psci_tree.proofs.Words.{child_count, cores_in, Domain, drop, drop_all, flat_map_single}
 use Rattle.psci_tree.proofs.Words.{get_or, is_width, IsTree, length, length-map, length-replicate}

@@ -1,3 +1,4 @@
+-- The row so far is that of its level, with every core off below it.
 use Rattle.psci_tree.proofs.Words.{◌≡◌, AreKept, child_counts, cores_in, drop, flat_map, length}
 use Rattle.psci_tree.proofs.Words.{never_started, replicate, size_below, sum, take}
 use Rattle.psci_tree.proofs.Built.{AreShaped}

@@ -1,3 +1,4 @@
+-- Each parent takes as many children off the row as the board gives it.
 use Rattle.std.proofs.lemmas.List.Sums.{sum_by-drop_more}
 use Rattle.psci_tree.proofs.Words.{◌++◌, ◌+◌, ◌<◌, ◌∙◌, ◌≡◌, ◌≤◌, [], ap, append_assoc, AreKept}
 use Rattle.psci_tree.proofs.Words.{arith, branches, child_count, cores_in, Domain, drop, flat_map}

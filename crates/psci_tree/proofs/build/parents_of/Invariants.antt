@@ -1,3 +1,4 @@
+-- The parents so far have the first children, and the others are left.
 use Rattle.psci_tree.proofs.Words.{◌++◌, ◌<◌, ◌^◌, ◌≡◌, [], AreKept, branches, child_count}
 use Rattle.psci_tree.proofs.Words.{cores_in, drop, flat_map, get_or, length, map, sum, take}
 use Rattle.psci_tree.proofs.build.parents_of.Given as goal

@@ -1,3 +1,4 @@
+-- One core more, which is off.
 use Rattle.psci_tree.proofs.Words.{◌∙◌, ◌≡◌, ap, AreKept, child_count, cores_in, length, map}
 use Rattle.psci_tree.proofs.Words.{never_started, refl, rules, subst, sum, sym}
 use Rattle.psci_tree.proofs.Keeping.{kept_push, kept_roll_core}

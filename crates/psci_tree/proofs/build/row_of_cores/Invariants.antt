@@ -1,3 +1,4 @@
+-- The cores so far are off, and have nothing below them.
 use Rattle.psci_tree.proofs.Words.{◌≡◌, AreKept, child_count, cores_in, length, map, never_started}
 use Rattle.psci_tree.proofs.Words.{replicate, sum}
 use Rattle.psci_tree.proofs.build.row_of_cores.Given as goal

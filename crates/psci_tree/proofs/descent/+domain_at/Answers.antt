@@ -1,3 +1,4 @@
+-- A domain is the child of its number of its parent's domain.
 use Rattle.psci_tree.proofs.Words.{◌-◌, ◌<◌, ◌∙◌, ◌≡◌, ap, arith, branches, Domain, domains_down}
 use Rattle.psci_tree.proofs.Words.{get_or, get_or_default, length, out-Domain, sym, ℕ}
 use Rattle.psci_tree.proofs.Upward.{StepsDown, steps_down}

@@ -1,3 +1,4 @@
+-- Each call looks one level higher.
 use Rattle.psci_tree.proofs.Words.{◌-◌, length}
 use Rattle.psci_tree.proofs.descent.+domain_at.Given as goal
 

@@ -1,3 +1,4 @@
+-- The way leads from the system down to the core that changes.
 use Rattle.psci_tree.proofs.Words.{◌∙◌, ◌≡◌, ap, arith, Domain, index_by, List, ℕ}
 use Rattle.psci_tree.proofs.Slices.{length_cores, size_few}
 use Rattle.psci_tree.proofs.Ways.{system_way}

@@ -1,3 +1,4 @@
+-- One level further down the core's path.
 use Rattle.std.proofs.Common.{get_or-set_other, get_or-set_same, length-set}
 use Rattle.psci_tree.proofs.Words.{◌+◌, ◌-◌, ◌<◌, ◌∙◌, ◌≡◌, ◌≤◌, ap, arith, branches, cases_eq}
 use Rattle.psci_tree.proofs.Words.{Domain, domains_down, get_or, get_or-replicate, get_or_default}

@@ -1,3 +1,4 @@
+-- No more cores are turned off than a board has.
 use Rattle.psci_tree.proofs.Words.{arith, List, ℕ}
 use Rattle.psci_tree.proofs.Slices.{length_cores, size_few}
 use Rattle.psci_tree.proofs.descent.turn_off.Goals as goal

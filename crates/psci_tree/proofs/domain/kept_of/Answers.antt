@@ -1,3 +1,4 @@
+-- One domain more is joined, which still fits.
 use Rattle.psci_tree.proofs.Words.{◌+◌, arith, cores_in, Domain, Keeps, Kept, kept_together}
 use Rattle.psci_tree.proofs.Words.{out-Domain, subst, sym, take}
 use Rattle.psci_tree.proofs.Below.{length_parts}

@@ -1,3 +1,4 @@
+-- What is kept so far is kept of the cores of the domains so far.
 use Rattle.psci_tree.proofs.Words.{cores_in, Keeps, take}
 use Rattle.psci_tree.proofs.domain.kept_of.Given as goal
 

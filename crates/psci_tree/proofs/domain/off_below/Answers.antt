@@ -1,3 +1,4 @@
+-- The off cores of one domain more are added, which still fit.
 use Rattle.psci_tree.proofs.Words.{◌+◌, ◌∙◌, ap, arith, cores_in, CoreState, count_by-le-length}
 use Rattle.psci_tree.proofs.Words.{is_away, out-Domain, sym, take}
 use Rattle.psci_tree.proofs.Below.{length_parts}

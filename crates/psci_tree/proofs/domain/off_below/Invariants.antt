@@ -1,3 +1,4 @@
+-- The off cores of the domains so far are counted.
 use Rattle.psci_tree.proofs.Words.{◌≡◌, cores_in, count_by, is_away, take}
 use Rattle.psci_tree.proofs.domain.off_below.Given as goal
 

@@ -1,3 +1,4 @@
+-- The domain of this level is cleared, and then those above it.
 use Rattle.psci_tree.proofs.Words.{◌+◌, ◌<◌, ◌∙◌, ◌≡◌, ◌≤◌, [], ap, arith, cleared_from}
 use Rattle.psci_tree.proofs.Words.{confirmed_of, Depths, get_or, granted_of, length, length-map}
 use Rattle.psci_tree.proofs.Words.{level_sizes, List, map, place_above, refl, set, Way, ℕ}

@@ -1,3 +1,4 @@
+-- Each call has fewer levels above it.
 use Rattle.psci_tree.proofs.Words.{◌-◌, length}
 use Rattle.psci_tree.proofs.grants.+clear_up.Given as goal
 

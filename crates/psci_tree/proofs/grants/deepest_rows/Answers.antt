@@ -1,3 +1,4 @@
+-- One row more, and all of them where the loop ends.
 use Rattle.std.proofs.lemmas.List.{map_push}
 use Rattle.psci_tree.proofs.Words.{◌<◌, ◌∙◌, ◌≡◌, ◌≤◌, ap, arith, Depths, filled, get_or, length}
 use Rattle.psci_tree.proofs.Words.{level_sizes, List, map, replicate, rows_with_depth, sym, take}

@@ -1,3 +1,4 @@
+-- The rows so far have power-down throughout, which is confirmed.
 use Rattle.psci_tree.proofs.Words.{◌≡◌, filled, level_sizes, map, take}
 use Rattle.psci_tree.proofs.grants.deepest_rows.Given as goal
 

@@ -1,3 +1,4 @@
+-- The depths of a node stand at its place, in the row of its level.
 use Rattle.psci_tree.proofs.Words.{◌∙◌, ◌≡◌, [], ap, arith, Depths, get_or, get_or-map}
 use Rattle.psci_tree.proofs.Words.{get_or_default, length, List, map, sym, ℕ}
 use Rattle.psci_tree.proofs.grants.depths_at.Goals as goal

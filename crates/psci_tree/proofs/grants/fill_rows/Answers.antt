@@ -1,3 +1,4 @@
+-- One row more is filled.
 use Rattle.psci_tree.proofs.Words.{◌+◌, ◌<◌, ◌∙◌, ◌≡◌, [], ap, arith, Depths, get_or, get_or-map}
 use Rattle.psci_tree.proofs.Words.{length, length-map, List, map, map-set, replicate, suc, sym, ℕ}
 use Rattle.psci_tree.proofs.DepthRows.{filled_more}

@@ -1,3 +1,4 @@
+-- The rows so far are filled, and the others are as they were.
 use Rattle.psci_tree.proofs.Words.{◌++◌, ◌≡◌, drop, filled, length, map, take}
 use Rattle.psci_tree.proofs.grants.fill_rows.Given as goal
 

@@ -1,3 +1,4 @@
+-- One place is written, in the row of its level.
 use Rattle.psci_tree.proofs.Words.{◌∙◌, [], ap, arith, Depths, get_or, get_or-map, length, List}
 use Rattle.psci_tree.proofs.Words.{map, map-set, set, sym, with_item, ℕ}
 use Rattle.psci_tree.proofs.grants.write.Goals as goal

@@ -1,3 +1,4 @@
+-- What is confirmed after each change, by the lemmas on confirmed depths.
 use Rattle.psci_tree.proofs.Words.{arith}
 use Rattle.psci_tree.specs.Changes.{suspended, turned_off, made_pending, started, with_confirmed}
 use Rattle.psci_tree.proofs.Looked.{confirmed_laws}

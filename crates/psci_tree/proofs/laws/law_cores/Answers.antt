@@ -1,3 +1,4 @@
+-- What is kept of cores after each change, by the lemma on one core's state.
 use Rattle.psci_tree.proofs.Words.{arith}
 use Rattle.psci_tree.specs.Changes.{suspended, turned_off, made_pending, started, with_grant}
 use Rattle.psci_tree.proofs.Looked.{core_with}

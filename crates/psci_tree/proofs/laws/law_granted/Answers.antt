@@ -1,3 +1,4 @@
+-- What is granted after each change, by the lemmas on granted depths.
 use Rattle.psci_tree.proofs.Words.{arith}
 use Rattle.psci_tree.specs.Changes.{suspended, turned_off, made_pending, started}
 use Rattle.psci_tree.proofs.Granted.{grant_at}

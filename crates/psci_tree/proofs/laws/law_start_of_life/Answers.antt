@@ -1,3 +1,4 @@
+-- At the start of a life only the boot core is active, and its path is cleared.
 use Rattle.psci_tree.proofs.Words.{◌==◌, ◌∙◌, ◌≡◌, Active, all_off, ap, arith, cond, CoreState}
 use Rattle.psci_tree.proofs.Words.{false, known_at, never_started, place_above, with_core_state, ℕ}
 use Rattle.psci_tree.specs.Changes.{made_pending, start_of_life}

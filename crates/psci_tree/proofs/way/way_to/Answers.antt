@@ -1,3 +1,4 @@
+-- One level more of the way, by the number of the child and the place of its parent.
 use Rattle.std.proofs.Common.{get_or-set_other, get_or-set_same, below_more, length-set}
 use Rattle.psci_tree.proofs.Words.{◌+◌, ◌<◌, ◌∙◌, ◌≡◌, ◌≢◌, [], ap, arith, BoardValue, drop, get_or}
 use Rattle.psci_tree.proofs.Words.{group_of, index_in, length, List, Node, place_above}

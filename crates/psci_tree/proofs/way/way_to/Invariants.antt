@@ -1,3 +1,4 @@
+-- The way so far leads from the core up to the place of this level.
 use Rattle.psci_tree.proofs.Words.{◌<◌, ◌≡◌, [], get_or, index_in, length, place_above, ℕ}
 use Rattle.psci_tree.proofs.way.way_to.Given as goal
 

@@ -1,3 +1,4 @@
+-- One way more, and all of them where the loop ends.
 use Rattle.std.proofs.lemmas.List.{get_or_push, get_or_append_left}
 use Rattle.psci_tree.proofs.Words.{◌++◌, ◌+◌, ◌<◌, ◌∙◌, ◌∷◌, ◌≡◌, [], ap, arith, cases_eq, get_or}
 use Rattle.psci_tree.proofs.Words.{inl, inr, IsWayOf, length, length_push, List, size_below, Way, ℕ}

@@ -1,3 +1,4 @@
+-- The ways so far lead to their cores.
 use Rattle.psci_tree.proofs.Words.{◌<◌, ◌≡◌, get_or, IsWayOf, length, Way, ℕ}
 use Rattle.psci_tree.proofs.way.ways_of.Given as goal
 

@@ -1,3 +1,4 @@
+-- What was kept is kept after a poll, and what the poll saw comes last.
 use Rattle.std.proofs.Common.{rules}
 use Rattle.psci_bench.proofs.Kept.{kept_polled, seen_last}
 use Rattle.psci_bench.proofs.watch.Watch.poll.Goals as goal

@@ -1,3 +1,4 @@
+-- What is kept of the watch holds after a call, too.
 use Rattle.psci_fw.specs.psci_fw_spec.declared.call.FwCall.TheVariants.{Smc}
 use Rattle.psci_fw.specs.psci_fw_spec.declared.reply.FwReply.TheVariants.{Out}
 use Rattle.psci_bench.proofs.Kept.{kept_answered}

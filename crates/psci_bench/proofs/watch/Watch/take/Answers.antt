@@ -1,3 +1,4 @@
+-- What is kept of the watch holds after an acknowledgement that was taken, too.
 use Rattle.psci_fw.specs.psci_fw_spec.declared.call.FwCall.TheVariants.{Take}
 use Rattle.psci_fw.specs.psci_fw_spec.declared.reply.FwReply.TheVariants.{Taken}
 use Rattle.psci_bench.proofs.Kept.{kept_taken}

@@ -1,3 +1,4 @@
+-- The core that a word names is that of all its fields, and stands on the board.
 use Rattle.psci_board.proofs.Terms.{◌*◌, ◌/◌, ◌^◌, ◌≡◌, ap, arith, div-one, drop, index_named, List}
 use Rattle.psci_board.proofs.Terms.{nat_tests, sym, ℕ}
 use Rattle.psci_board.specs.Board.{core_of}

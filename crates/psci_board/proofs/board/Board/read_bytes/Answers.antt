@@ -1,3 +1,4 @@
+-- A text without a fault is of a board, and none other is.
 use Rattle.psci_board.proofs.Decided.{good_text, no_fault}
 use Rattle.psci_board.proofs.board.Board.read_bytes.Goals as goal
 

@@ -1,3 +1,4 @@
+-- No more parts of a Down are applied than there are.
 use Rattle.std.proofs.Common.{◌≤◌, length, ap, sym, subst, arith}
 use Rattle.psci_messages.specs.Message.{MessageValue, most_applied}
 use Rattle.psci_ctl.specs.declared.done.Done.{Done}

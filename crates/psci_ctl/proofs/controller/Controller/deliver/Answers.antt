@@ -1,3 +1,4 @@
+-- What a delivery leaves is the one reply to it.
 use Rattle.std.proofs.Common.{rules}
 use Rattle.psci_ctl_spec.specs.Replies.{delivery_of, reply}
 use Rattle.psci_ctl_spec.specs.Effects.{effect_of}

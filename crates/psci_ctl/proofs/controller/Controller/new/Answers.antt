@@ -1,3 +1,4 @@
+-- A new controller has begun its first life.
 use Rattle.std.proofs.Common.{Some, ◌∙◌, subst}
 use Rattle.std.proofs.lemmas.List.{with_items_is}
 use Rattle.psci_board.specs.Board.{IsBoard}

@@ -1,3 +1,4 @@
+-- What a reset leaves is the one reply to it.
 use Rattle.std.proofs.Common.{rules}
 use Rattle.psci_ctl_spec.specs.Replies.{reply, reset_of}
 use Rattle.psci_ctl_spec.specs.Effects.{effect_of}

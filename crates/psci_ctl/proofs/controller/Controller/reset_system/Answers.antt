@@ -1,3 +1,4 @@
+-- A system reset begins the next life.
 use Rattle.std.proofs.Common.{◌≡◌, ◌+◌, ◌<◌, Some, ap, ◌∙◌, arith, refl}
 use Rattle.std.proofs.lemmas.List.{with_items_is}
 use Rattle.psci_ctl.specs.Rows.{values_in}

@@ -1,3 +1,4 @@
+-- One core was started once more, and the domains on its path are fully on.
 use Rattle.std.proofs.Common.{◌≡◌, ℕ, ◌+◌, List, ap, ◌∙◌, refl}
 use Rattle.std.proofs.lemmas.List.{with_items_is}
 use Rattle.psci_ctl_spec.specs.Values.{Values}

@@ -1,3 +1,4 @@
+-- Part by part, until one is not live or not covered.
 use Rattle.std.proofs.Common.{◌≡◌, ℕ, ◌+◌, Bool, refl, ap, arith}
 use Rattle.psci_messages.specs.declared.part.Part.{Part}
 use Rattle.psci_ctl.specs.declared.done.Done.{Done}

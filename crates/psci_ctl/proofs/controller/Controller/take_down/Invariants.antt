@@ -1,3 +1,4 @@
+-- The parts so far were applied.
 use Rattle.std.proofs.Common.{◌≡◌}
 use Rattle.psci_ctl.proofs.Walked.{IsWalked}
 use Rattle.psci_ctl.proofs.controller.Controller.take_down.Given as goal

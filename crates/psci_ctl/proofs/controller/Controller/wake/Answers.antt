@@ -1,3 +1,4 @@
+-- What a wake-up leaves is the one reply to it.
 use Rattle.std.proofs.Common.{rules}
 use Rattle.psci_ctl_spec.specs.Replies.{reply, wake_of}
 use Rattle.psci_ctl_spec.specs.Effects.{effect_of}

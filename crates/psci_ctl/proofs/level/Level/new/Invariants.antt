@@ -1,3 +1,4 @@
+-- There are as many rows as the loop has counted.
 use Rattle.std.proofs.Common.{◌≡◌, length}
 use Rattle.psci_ctl.proofs.level.Level.new.Given as goal
 

@@ -1,3 +1,4 @@
+-- What an acknowledgement that is used leaves, whether it turns its core off or not.
 use Rattle.std.specs.Prelude.{Some}
 use Rattle.psci_fw_state.proofs.Words.{◌<◌, ◌∙◌, ◌≡◌, Acknowledge, AckValue, answered, arith, false}
 use Rattle.psci_fw_state.proofs.Words.{length, message_in, refl, row_at, slot_of, StateValue, subst}

@@ -1,3 +1,4 @@
+-- Every other core is off where as many are, but for the core itself.
 use Rattle.psci_fw_state.proofs.Words.{◌≡◌, counts_below, one_core, StateValue, status_at, the_view}
 use Rattle.psci_fw_state.proofs.Words.{ℕ}
 use Rattle.psci_fw_state.specs.Seen.{values_in}

@@ -1,3 +1,4 @@
+-- A core that arrives and stops is away, unless it is pending, and its slots are clear.
 use Rattle.psci_fw_state.proofs.Words.{◌∙◌, ◌≡◌, ap, Clear, length, length-set, None, row_at}
 use Rattle.psci_fw_state.proofs.Words.{StateValue, the_view, TreeValue}
 use Rattle.psci_fw_state.proofs.Changed.{in_rows, row_set}

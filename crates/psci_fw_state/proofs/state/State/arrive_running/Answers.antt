@@ -1,3 +1,4 @@
+-- A core that arrives and goes on runs, and its slots are clear.
 use Rattle.psci_fw_state.proofs.Words.{◌<◌, Clear, length, None, StateValue, the_view}
 use Rattle.psci_fw_state.proofs.Changed.{in_rows, row_set, within}
 use Rattle.psci_fw_state.proofs.Moved.{path_cleared, path_unconfirmed, rows_set, running_changed}

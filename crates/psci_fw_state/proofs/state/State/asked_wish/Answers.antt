@@ -1,3 +1,4 @@
+-- What is asked goes by the mode, and may be refused in OS-initiated mode.
 use Rattle.psci_fw_state.proofs.Words.{◌∙◌, ap, asked_wish, sym, values_in, view, wish_unless}
 use Rattle.psci_fw_state.proofs.state.State.asked_wish.Goals as goal
 

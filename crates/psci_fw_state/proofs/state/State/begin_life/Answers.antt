@@ -1,3 +1,4 @@
+-- All values are those of the start of a life.
 use Rattle.psci_fw_state.proofs.Words.{◌<◌, ◌∙◌, ◌≡◌, ap, length, size_below, StateValue, sym}
 use Rattle.psci_fw_state.proofs.Words.{the_view, TreeValue, with_items_is}
 use Rattle.psci_messages.specs.Slots.Change.{ClearAll}

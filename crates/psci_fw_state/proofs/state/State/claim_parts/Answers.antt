@@ -1,3 +1,4 @@
+-- The parts are granted, and the Down with them is outstanding.
 use Rattle.psci_fw_state.proofs.Words.{◌<◌, ◌∙◌, ◌≡◌, ap, arith, IsOfCores, known_at, length}
 use Rattle.psci_fw_state.proofs.Words.{MessageValue, Put, slot_of, StateValue, the_view}
 use Rattle.psci_fw_spec.specs.Outcomes.{message_for}

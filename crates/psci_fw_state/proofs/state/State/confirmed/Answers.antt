@@ -1,3 +1,4 @@
+-- Nothing is confirmed of a domain that the board does not have.
 use Rattle.psci_fw_state.proofs.Words.{arith}
 use Rattle.psci_fw_state.proofs.Begun.{confirmed_shown}
 use Rattle.psci_fw_state.proofs.state.State.confirmed.Goals as goal

@@ -1,3 +1,4 @@
+-- Nothing is granted to a domain that the board does not have.
 use Rattle.psci_fw_state.proofs.Words.{arith}
 use Rattle.psci_fw_state.proofs.Begun.{granted_shown}
 use Rattle.psci_fw_state.proofs.state.State.granted.Goals as goal

@@ -1,3 +1,4 @@
+-- The life is halting, and the message is outstanding.
 use Rattle.psci_fw_state.proofs.Words.{◌∙◌, ◌≡◌, ap, changed, cores, IsOfCores, length, message_in}
 use Rattle.psci_fw_state.proofs.Words.{MessageValue, Put, Slot, slot_of, SlotsValue, StateValue}
 use Rattle.psci_fw_state.proofs.Words.{subst, sym, the_view, ℕ}

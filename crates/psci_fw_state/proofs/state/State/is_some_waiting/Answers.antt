@@ -1,3 +1,4 @@
+-- A core waits where one is pending, or one is neither off nor active.
 use Rattle.psci_fw_state.proofs.Words.{◌∙◌, arith, off, StateValue, the_view, true}
 use Rattle.psci_tree.specs.Recount.{active}
 use Rattle.psci_fw_state.specs.Seen.{values_in}

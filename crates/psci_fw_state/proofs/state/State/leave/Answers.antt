@@ -1,3 +1,4 @@
+-- A core that goes off is away.
 use Rattle.psci_fw_state.proofs.Words.{◌<◌, ap, is_pending_phase, length}
 use Rattle.psci_fw_state.proofs.Changed.{away_changed, within}
 use Rattle.psci_fw_state.proofs.state.State.leave.Goals as goal

@@ -1,3 +1,4 @@
+-- What is claimed of a core that goes off goes by the mode.
 use Rattle.psci_fw_state.proofs.Words.{◌∙◌, ap, sym, values_in, view}
 use Rattle.psci_fw_spec.specs.Claims.{leaving_claims}
 use Rattle.psci_fw_state.proofs.state.State.leaving_wish.Goals as goal

@@ -1,3 +1,4 @@
+-- The status of a core is in its row, and that of a domain by its counts.
 use Rattle.psci_fw_state.proofs.Words.{◌<◌, ◌∙◌, ◌≤◌, ap, arith, cases_lt, CoreRow, counts_at}
 use Rattle.psci_fw_state.proofs.Words.{height, inl, inr, map, nodes, row_at, status_counted}
 use Rattle.psci_fw_state.proofs.NodeStatus.{status_domain, status_leaf, status_none}

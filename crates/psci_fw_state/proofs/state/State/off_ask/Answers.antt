@@ -1,3 +1,4 @@
+-- The claims of a core that goes off, seen in the tree, are those of its values.
 use Rattle.psci_fw_state.proofs.Words.{◌∙◌, ◌≡◌, ap, own_claims, subst, view_of}
 use Rattle.psci_messages.specs.Claim.{off_claims}
 use Rattle.psci_messages.specs.View.{PowerView}

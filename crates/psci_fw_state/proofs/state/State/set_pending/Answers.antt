@@ -1,3 +1,4 @@
+-- A core is pending with its opening, and its Start is outstanding.
 use Rattle.psci_fw_state.proofs.Words.{◌<◌, ◌≡◌, arith, cores, IsOfCores, length, MessageValue, Put}
 use Rattle.psci_fw_state.proofs.Words.{slot_of, Some, StateValue, the_view}
 use Rattle.psci_fw_state.proofs.Changed.{core_set, in_rows, row_set, within}

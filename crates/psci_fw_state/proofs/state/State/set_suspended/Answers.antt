@@ -1,3 +1,4 @@
+-- A suspended core has its ask, and its opening where it powers down.
 use Rattle.psci_fw_state.proofs.Words.{◌<◌, ◌∙◌, ◌≡◌, ap, length, length-set, None, refl, row_at}
 use Rattle.psci_fw_state.proofs.Words.{Some, StateValue, sym, the_view, TreeValue}
 use Rattle.psci_fw_state.proofs.Changed.{in_rows, row_set, updated_same, within}

@@ -1,3 +1,4 @@
+-- The parts that a suspended core sends, or why it is refused.
 use Rattle.psci_fw_state.proofs.Words.{◌∙◌, ap, BoardValue, Ok, rules, sym, values_in, view}
 use Rattle.psci_fw_state.proofs.Words.{wished_claims}
 use Rattle.psci_fw_spec.specs.Claims.{suspend_parts}

@@ -1,3 +1,4 @@
+-- The parts of a wish, climbed in the tree, are those of the values.
 use Rattle.psci_fw_state.proofs.Words.{◌∙◌, ap, view_of, wished_claims}
 use Rattle.psci_fw_state.proofs.Viewed.{viewed}
 use Rattle.psci_fw_state.proofs.state.State.wished_parts.Goals as goal

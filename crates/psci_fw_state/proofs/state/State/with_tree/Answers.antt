@@ -1,3 +1,4 @@
+-- With a tree at its start, the values are those of the start of a life.
 use Rattle.psci_fw_state.proofs.Words.{◌∙◌, ◌≡◌, ap, length, sym, with_items_is}
 use Rattle.psci_fw_state.proofs.Begun.{at_start, none_in, some_below}
 use Rattle.psci_fw_state.proofs.state.State.with_tree.Goals as goal

@@ -1,3 +1,4 @@
+-- What came stands behind what was unread; where reading failed, that stays.
 use Rattle.std.proofs.lemmas.Bool.Decides.{nat_tests}
 use Rattle.std.proofs.Common.{arith}
 use Rattle.psci_script.proofs.Known.{on_err}

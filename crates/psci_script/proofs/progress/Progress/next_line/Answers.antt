@@ -1,3 +1,4 @@
+-- Block after block is read until a line is whole, or the script ends.
 use Rattle.std.proofs.Common.{ap, refl, sym, ◌∙◌, ◌<◌, ◌≤◌, length, arith, false, true}
 use Rattle.std.proofs.lemmas.Bool.{eqb-true}
 use Rattle.psci_script.specs.Lines.{has_line_feed}

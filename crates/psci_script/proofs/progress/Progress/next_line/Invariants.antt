@@ -1,3 +1,4 @@
+-- What was read so far is ahead, and the bytes of a line are left to read.
 use Rattle.std.proofs.Common.{length, ◌-◌}
 use Rattle.psci_script.specs.Progress.{Ahead, SameDevices, StaySound, progress_of}
 use Rattle.psci_script.proofs.progress.Progress.next_line.Given as goal

@@ -1,3 +1,4 @@
+-- Answers that wait are written first, and then bytes are read.
 use Rattle.std.proofs.Common.{◌≡◌, ap, refl}
 use Rattle.psci_script.specs.declared.fault.ReplayFault.TheVariants.{Read}
 use Rattle.psci_script.specs.Answered.{Answered}

@@ -1,3 +1,4 @@
+-- A call under the lock is entered in the book, and its statuses are written.
 use Rattle.std.proofs.Common.{rules, map, ap, arith}
 use Rattle.psci_status.specs.Lists.{newest}
 use Rattle.psci_status.specs.Seats.{written}

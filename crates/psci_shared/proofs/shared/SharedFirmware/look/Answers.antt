@@ -1,3 +1,4 @@
+-- What is seen under the lock is a legal history.
 use Rattle.std.proofs.Common.{refl, sym, subst, List}
 use Rattle.psci_fw.specs.psci_fw_spec.Legal.{IsLegal}
 use Rattle.psci_shared.specs.Entries.{FwEntry}

@@ -1,3 +1,4 @@
+-- The core that the way leads to is changed, and each domain above it counts that.
 use Rattle.psci_tree.proofs.Words.{◌-◌, ◌≡◌, ap, arith, branches, cores_in, Domain, get_or, Keeps}
 use Rattle.psci_tree.proofs.Words.{Kept, length, rules, set, subst, sym, the_lemmas, ℕ}
 use Rattle.psci_tree.specs.declared.domain.Domain.TheViews.{out-Domain}

@@ -1,3 +1,4 @@
+-- The core is changed, and each domain above it looks at all its children again.
 use Rattle.psci_tree.proofs.Words.{◌-◌, ◌∙◌, ◌∷◌, ◌≡◌, [], ap, AreKept, arith, branches, cores_in}
 use Rattle.psci_tree.proofs.Words.{CoreState, Domain, get_or, index_by, Keeps, leaves, length}
 use Rattle.psci_tree.proofs.Words.{rules, set, subst, sym, the_lemmas, ℕ}

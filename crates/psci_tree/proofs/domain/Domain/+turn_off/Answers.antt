@@ -1,3 +1,4 @@
+-- Child by child, and then the domain itself has every core below it off.
 use Rattle.std.proofs.Common.{get_or-set_other}
 use Rattle.psci_tree.proofs.Words.{◌+◌, ◌<◌, ◌∙◌, ◌≡◌, ◌≢◌, ◌≤◌, ap, AreKept, arith, branches}
 use Rattle.psci_tree.proofs.Words.{child_counts, cores_in, count_by, Domain, Domain-F, get_or}

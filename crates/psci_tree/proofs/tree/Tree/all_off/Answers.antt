@@ -1,3 +1,4 @@
+-- A tree whose parts say that every core is off is one.
 use Rattle.psci_tree.proofs.Words.{◌∙◌, sym}
 use Rattle.psci_tree.proofs.Valid.{all_off_valid}
 use Rattle.psci_tree.proofs.tree.Tree.all_off.Goals as goal

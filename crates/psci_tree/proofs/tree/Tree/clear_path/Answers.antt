@@ -1,3 +1,4 @@
+-- Where nothing is granted to the core, its path is clear; else it is cleared.
 use Rattle.psci_tree.proofs.Words.{◌∙◌, arith, refl, sym}
 use Rattle.psci_tree.proofs.Granted.{none_to_clear}
 use Rattle.psci_tree.proofs.Valid.{path_valid}

@@ -1,3 +1,4 @@
+-- What was granted to one domain is confirmed, and the rest stays.
 use Rattle.std.proofs.lemmas.List.{set-get_or}
 use Rattle.psci_tree.proofs.Words.{◌∙◌, ◌≡◌, [], ap, arith, depth_set, Depths, get_or, granted_at}
 use Rattle.psci_tree.proofs.Words.{List, Node, refl, set, TreeValue, ℕ}

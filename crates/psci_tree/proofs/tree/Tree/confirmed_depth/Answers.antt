@@ -1,3 +1,4 @@
+-- The confirmed depth stands in the rows.
 use Rattle.psci_tree.proofs.Seen.{depths_seen}
 use Rattle.psci_tree.proofs.tree.Tree.confirmed_depth.Goals as goal
 

@@ -1,3 +1,4 @@
+-- The domain in memory has the cores that the tree has below the node.
 use Rattle.psci_tree.proofs.Words.{◌+◌, ◌-◌, ◌≡◌, ap, arith, Domain, HasNodeIn, IsRecount, IsTied}
 use Rattle.psci_tree.proofs.Words.{length, Node, subst, sym, TreeValue, ℕ}
 use Rattle.psci_tree.proofs.Slices.{states_at, size_at}

@@ -1,3 +1,4 @@
+-- One domain is granted another depth, and the rest stays.
 use Rattle.psci_tree.proofs.Words.{◌==◌, ◌∙◌, ap, arith, cond, Depths, granted_at, Node, refl}
 use Rattle.psci_tree.proofs.Words.{TreeValue, ℕ}
 use Rattle.psci_tree.specs.Changes.{with_grant}

@@ -1,3 +1,4 @@
+-- The granted depth stands in the rows.
 use Rattle.psci_tree.proofs.Seen.{depths_seen}
 use Rattle.psci_tree.proofs.tree.Tree.granted.Goals as goal
 

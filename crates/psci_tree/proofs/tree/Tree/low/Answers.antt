@@ -1,3 +1,4 @@
+-- The least ask is kept in the domain; above the board nothing is asked.
 use Rattle.std.proofs.lemmas.List.FromFn.{length-range_with_len}
 use Rattle.psci_tree.proofs.Words.{◌<◌, ◌∙◌, ap, arith, below_in, IsTied, length, span, SpanLaws}
 use Rattle.psci_tree.proofs.Words.{subst, TreeValue}

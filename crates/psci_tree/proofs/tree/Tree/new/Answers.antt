@@ -1,3 +1,4 @@
+-- From every core off, the boot core is made pending.
 use Rattle.psci_tree.proofs.Words.{◌<◌, ◌∙◌, ap, made_pending, size_below, subst, sym, TreeValue}
 use Rattle.psci_tree.specs.Changes.{start_of_life}
 use Rattle.psci_tree.proofs.tree.Tree.new.Goals as goal

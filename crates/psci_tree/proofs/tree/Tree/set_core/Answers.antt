@@ -1,3 +1,4 @@
+-- One core is in another state, in its row and in the domains above it.
 use Rattle.psci_tree.proofs.Words.{◌∙◌, ap, IsActivity, known_at, subst, sym, the_view, TreeValue}
 use Rattle.psci_tree.proofs.Words.{unwrap_or, with_core_state}
 use Rattle.psci_tree.proofs.Seen.{held_core, core_value, state_held, core_seen, way_seen}

@@ -1,3 +1,4 @@
+-- How the domains on a core's path stand in memory is how they do in the tree.
 use Rattle.psci_tree.proofs.Words.{◌∙◌, ◌≡◌, ◌≤◌, ap, Domain, get_or, kept_on_path, known, length}
 use Rattle.psci_tree.proofs.Words.{low, on_path, subst, sym, TreeValue, ℕ}
 use Rattle.psci_tree.proofs.PathStands.{path_stands}

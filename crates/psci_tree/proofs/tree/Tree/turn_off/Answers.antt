@@ -1,3 +1,4 @@
+-- Every core is off, and every domain is granted power-down, which is confirmed.
 use Rattle.psci_tree.proofs.Words.{◌∙◌, ◌≡◌, ap, arith, CoreState, Depths, Domain, IsHeld, length}
 use Rattle.psci_tree.proofs.Words.{level_sizes, List, map, never_started, replicate, subst, sym}
 use Rattle.psci_tree.proofs.Words.{Way, with_items_is, ℕ}

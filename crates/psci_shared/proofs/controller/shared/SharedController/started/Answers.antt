@@ -1,3 +1,4 @@
+-- What a core was started with stands in the controller's book.
 use Rattle.psci_shared.proofs.controller.shared.SharedController.started.Goals as goal
 
 pub returns : goal.returns
