@@ -4,7 +4,6 @@
 #include "pool.h"
 #include "vmm.h"
 
-#include <signal.h>
 #include <stdio.h>
 #include <stdlib.h>
 #include <string.h>
@@ -46,11 +45,8 @@ static void end_life(const struct psci_ctl_answer *answer) {
     life = answer->what == PSCI_CTL_OFF ? IS_OFF : RESTARTS;
     if (life == RESTARTS)
         cores[0].start = answer->start;
-    for (struct core *core = cores; core < cores + many_cores; core++) {
-        __atomic_store_n(&core->run->immediate_exit, 1, __ATOMIC_SEQ_CST);
-        pthread_kill(core->thread, SIGUSR1);
-        pthread_cond_signal(&core->bell);
-    }
+    for (struct core *core = cores; core < cores + many_cores; core++)
+        call_back(core);
 }
 
 /* What the controller decides takes place at once. */
@@ -160,12 +156,21 @@ static void find_cores(void) {
             cores[number++].affinity = cluster << 8 | k;
 }
 
+/* By the fault's name in docs/port/FORMATS.md. */
+static void must_open(uint32_t answer) {
+    static const char *const names[] = {"",         "Grammar", "Uneven",   "TooWide", "TooManyCores",
+                                        "BadRange", "BadBoot", "BadLimit", "Memory"};
+    if (answer == PSCI_OPENED)
+        return;
+    fprintf(stderr, "vmm: the board is refused: %s\n", names[answer]);
+    exit(1);
+}
+
 void open_library(const char *board) {
     size_t size = pool_size(MOST_CORES) * 2;
     pool_give(aligned_alloc(16, size), size);
-    if (psci_open(&firmware, (const uint8_t *)board, strlen(board)) != PSCI_OPENED ||
-        psci_ctl_open(&controller, (const uint8_t *)board, strlen(board)) != PSCI_OPENED)
-        fail("the board");
+    must_open(psci_open(&firmware, (const uint8_t *)board, strlen(board)));
+    must_open(psci_ctl_open(&controller, (const uint8_t *)board, strlen(board)));
     find_cores();
     psci_ctl_started(&controller, 0, &cores[0].start);
     cores[0].is_open = true;

@@ -1,5 +1,6 @@
 /* Runs an Image until it turns its system off:
- *     vmm [-b BOARD] [-r RECORD] IMAGE TREE [INITRD] */
+ *     vmm [-b BOARD] [-r RECORD] [-l] IMAGE TREE [INITRD]
+ * With -l each letter of its console is an exit. */
 #include "vmm.h"
 
 #include <errno.h>
@@ -20,6 +21,12 @@ static void load_all(void) {
         load(initrd, INITRD);
 }
 
+void call_back(struct core *core) {
+    __atomic_store_n(&core->run->immediate_exit, 1, __ATOMIC_SEQ_CST);
+    pthread_kill(core->thread, SIGUSR1);
+    pthread_cond_signal(&core->bell);
+}
+
 /* All cores have left the guest. Then memory is as at the beginning, and the boot core finds its start. */
 static bool next_life(struct core *core) {
     bool boots = core == cores;
@@ -36,17 +43,6 @@ static bool next_life(struct core *core) {
     }
     pthread_barrier_wait(&all);
     return true;
-}
-
-/* The boot core's first entry in a life gets what Linux wants in x0: nobody has asked for it. */
-static void begin(struct core *core, const struct psci_answer *answer) {
-    if (answer->what == PSCI_RESUME) {
-        set_state(core, KVM_MP_STATE_RUNNABLE);
-        set_x0(core, 0);
-    } else if (answer->what == PSCI_ENTER) {
-        go_on_at(core, answer->address);
-        set_x0(core, core->start.cause == PSCI_CAUSE_BOOT ? MEMORY + TREE : answer->context);
-    }
 }
 
 static bool is_woken(const struct kvm_run *run) {
@@ -87,7 +83,7 @@ static void *play(void *argument) {
         if (is_over && !next_life(core))
             return 0;
         if (enters)
-            begin(core, &answer);
+            begin(core, &answer, MEMORY + TREE);
         else if (!is_over && !waits)
             run_once(core);
     }
@@ -106,12 +102,15 @@ static void start_cores(void) {
 
 int main(int many, char **words) {
     const char *board = "(2 2) exec 0x40000000-0x50000000 boot 0x40200000 starts 4294967295 lives 65535", *record = 0;
+    bool has_ring = true;
     struct sigaction action = {.sa_handler = nothing};
-    for (int letter; (letter = getopt(many, words, "b:r:")) != -1;) {
+    for (int letter; (letter = getopt(many, words, "b:r:l")) != -1;) {
         if (letter == 'b')
             board = optarg;
         else if (letter == 'r')
             record = optarg;
+        else if (letter == 'l')
+            has_ring = false;
         else
             return 2;
     }
@@ -122,7 +121,7 @@ int main(int many, char **words) {
     initrd = words[optind + 2];
     sigaction(SIGUSR1, &action, 0);
     open_library(board);
-    open_machine();
+    open_machine(has_ring);
     load_all();
     record_into(record, board);
     start_cores();

@@ -45,16 +45,25 @@ void call(struct core *core);
 void wake(struct core *core);
 bool was_refused(void);
 
-/* guest.c: the machine, its memory and the registers of a vCPU, which its own thread alone asks for. */
-extern int machine;
+/* vcpu.c: KVM's vCPU. Its registers its own thread alone asks for. */
 _Noreturn void fail(const char *what);
 int ask(int file, unsigned long request, void *argument, const char *what);
-void open_machine(void);
-void load(const char *name, uint64_t at);
+void set_attribute(int device, uint32_t group, uint64_t number, const void *value, const char *what);
+void filter_calls(int vm);
+unsigned long vcpu_number(const struct core *core);
+void adopt(struct core *core, int vcpu, struct kvm_run *run);
 uint64_t get_x(struct core *core, unsigned number);
 void set_x0(struct core *core, uint64_t value);
 void set_state(struct core *core, uint32_t state);
-void go_on_at(struct core *core, uint64_t address);
+void begin(struct core *core, const struct psci_answer *answer, uint64_t tree);
+
+/* vmm.c: takes a core out of the guest, or out of its wait; with the lock in hand. */
+void call_back(struct core *core);
+
+/* guest.c: the machine and its memory. */
+extern int machine;
+void open_machine(bool has_ring);
+void load(const char *name, uint64_t at);
 
 /* devices.c: a console and a clock with an alarm. No access asks for what waits in the ring alone. */
 void open_devices(void);
