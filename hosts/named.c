@@ -23,7 +23,6 @@ static struct core {
 
 static struct words words;
 static struct psci_place place;
-static struct psci_machine_place machine;
 static struct psci_ctl_place controller;
 static uint32_t life;
 static uint8_t messages[MOST_FRAMES][PSCI_FRAME_LEN], acks[MOST_FRAMES][PSCI_FRAME_LEN];
@@ -45,7 +44,7 @@ static void stop_all(void) {
 
 /* The core that boots has number 0, and its MPIDR. */
 static void begin_life(void) {
-    if (psci_core_of(&machine, words.boot) != 0)
+    if (psci_core_of(&place, words.boot) != 0)
         fail("the boot core has another number");
     stop_all();
     start(0, 1, PSCI_CAUSE_BOOT);
@@ -55,13 +54,12 @@ static void begin_life(void) {
 static void open_all(void) {
     size_t size = 3 * pool_size(words.machine.many_mpidrs) + 65536;
     pool_give(malloc(size), size);
-    uint32_t opened = psci_open_machine(&machine, &words.board, &words.machine, words.boot);
+    uint32_t opened = psci_open_machine(&place, &words.board, &words.machine, words.boot);
     if (opened != PSCI_OPENED) {
         printf("machine %" PRIu32 "\n", opened);
         exit(0);
     }
-    if (psci_open_board(&place, &words.board) != PSCI_OPENED
-        || psci_ctl_open_board(&controller, &words.board) != PSCI_OPENED)
+    if (psci_ctl_open_board(&controller, &words.board) != PSCI_OPENED)
         fail("the board did not open");
     begin_life();
 }
@@ -78,7 +76,7 @@ static void send(const struct psci_frame *frame) {
         fail("a message is no frame");
     memcpy(messages[many_messages], frame->bytes, PSCI_FRAME_LEN);
     printf(" #%" PRIu64 " %s 0x%" PRIx64 " life %" PRIu32 " number %" PRIu32, many_messages++,
-           kinds[it.kind], psci_mpidr_of(&machine, it.core), it.life, it.number);
+           kinds[it.kind], psci_mpidr_of(&place, it.core), it.life, it.number);
     if (it.count)
         printf(" parts");
     for (const struct psci_part *part = it.parts; part < it.parts + it.count; part++)
@@ -98,14 +96,14 @@ static void tell(const struct psci_asked *asked) {
 }
 
 /* What a core does with its answer. */
-static void obey(unsigned core, const struct psci_answer *answer, const struct psci_asked *asked) {
+static void obey(unsigned core, const struct psci_answer *answer) {
     cores[core].place = answer->what == PSCI_STOP ? STOPPED : RUNNING;
     switch (answer->what) {
     case PSCI_RETURN: printf("return %" PRId32, answer->code); break;
     case PSCI_STOP:
         printf("stop");
         if (answer->message.some)
-            tell(asked);
+            tell(&answer->asked);
         break;
     case PSCI_ENTER:
         printf("enter 0x%" PRIx64 " 0x%" PRIx64, answer->address, answer->context);
@@ -119,26 +117,24 @@ static void obey(unsigned core, const struct psci_answer *answer, const struct p
 static void call(unsigned core, char *at) {
     uint64_t x[4] = {0};
     struct psci_answer answer;
-    struct psci_asked asked;
     for (int i = 0; i < 4; i++)
         x[i] = strtoull(at, &at, 0);
     if (cores[core].place != RUNNING) {
         printf("ignored");
         return;
     }
-    psci_smc_machine(&place, &machine, core, x[0], x[1], x[2], x[3], &answer, &asked);
-    obey(core, &answer, &asked);
+    psci_smc(&place, core, x[0], x[1], x[2], x[3], &answer);
+    obey(core, &answer);
 }
 
 static void enter(unsigned core) {
-    static const struct psci_asked nothing;
     struct psci_answer answer;
     if (cores[core].place != STARTED) {
         printf("ignored");
         return;
     }
     psci_enter(&place, core, life, cores[core].number, cores[core].cause, &answer);
-    obey(core, &answer, &nothing);
+    obey(core, &answer);
 }
 
 static void take(uint64_t k) {
@@ -200,14 +196,14 @@ static void event(char *line) {
         deliver(name);
     else if (*line == 't')
         take(name);
-    else if (psci_core_of(&machine, name) == UINT16_MAX)
+    else if (psci_core_of(&place, name) == UINT16_MAX)
         printf("absent");
     else if (*line == 'c')
-        call(psci_core_of(&machine, name), at);
+        call(psci_core_of(&place, name), at);
     else if (*line == 'e')
-        enter(psci_core_of(&machine, name));
+        enter(psci_core_of(&place, name));
     else
-        kick(psci_core_of(&machine, name), *line == 'r');
+        kick(psci_core_of(&place, name), *line == 'r');
     putchar('\n');
 }
 
@@ -224,7 +220,6 @@ int main(int count, char **names) {
         }
     }
     psci_close(&place);
-    psci_close_machine(&machine);
     psci_ctl_close(&controller);
     return 0;
 }

@@ -16,13 +16,15 @@ of_release() {
     release=$1 cache=${cache%/"$1"}/$1
 }
 
+# own_apt [COMPONENT TRUST KINDS]: Debian's main, by its key, of both kinds
 own_apt() {
-    local apt=$cache/apt it suites=("$release")
+    local apt=$cache/apt it suites=("$release") component=${1:-main}
+    local trust=${2:-signed-by=/usr/share/keyrings/debian-archive-keyring.gpg}
     [ "$release" = "${release%-backports}" ] || suites+=("${release%-backports}")
     mkdir -p "$apt/lists/partial" "$apt/archives/partial"
     : > "$apt/status"
-    for it in deb deb-src; do
-        printf "$it [signed-by=/usr/share/keyrings/debian-archive-keyring.gpg] $mirror %s main\n" "${suites[@]}"
+    for it in ${3:-deb deb-src}; do
+        printf "$it [$trust] $mirror %s $component\n" "${suites[@]}"
     done > "$apt/sources"
     cat > "$apt/conf" <<CONF
 Dir::Etc::SourceList "$apt/sources"; Dir::Etc::SourceParts "-";
@@ -126,5 +128,27 @@ fetch_tfa() {
     dpkg-source -x arm-trusted-firmware_*.dsc unpacked > unpacked.log 2>&1 ||
         stop "see $cache/tfa/unpacked.log"
     mv unpacked source
+    cd - > /dev/null
+}
+
+# The source of kvmtool, which Ubuntu has and no Debian, and libfdt, into $cache/kvmtool. What is believed of the source
+# is its sum.
+fetch_kvmtool() {
+    local at=$cache/kvmtool sum=5a70657add5663391f689f3dc43393093abddb28df0543229498b01fe0fdbaa5
+    mkdir -p "$at"
+    cd "$at"
+    own_apt
+    apt-get download -qq libfdt-dev || stop "cannot download libfdt-dev of arm64"
+    dpkg-deb -x libfdt-dev_*.deb .
+    (
+        mirror=http://archive.ubuntu.com/ubuntu release=jammy cache=$at/jammy
+        own_apt universe trusted=yes deb-src 2> /dev/null
+        say "downloading kvmtool's source (200 KB)"
+        apt-get source -qq --download-only --tar-only kvmtool
+    ) || stop "cannot download the source package kvmtool of Ubuntu"
+    echo "$sum  $(echo kvmtool_*.orig.tar.xz)" | sha256sum --quiet -c || stop "kvmtool's source has another sum"
+    mkdir -p source
+    tar -xJf kvmtool_*.orig.tar.xz -C source --strip-components=1
+    rm -rf jammy
     cd - > /dev/null
 }

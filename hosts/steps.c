@@ -16,7 +16,7 @@ enum { TRAP_FLAG = 0x100, MOST = 20000, FEW = 8 };
 static sigjmp_buf reset;
 static volatile long left;
 static struct psci_ctl_start start;
-static struct psci_machine_place machine;
+static struct psci_place machine;
 static struct psci_poller poller;
 
 /* A machine whose words are the board's but for its MPIDRs: it has no state of its own. */
@@ -61,10 +61,7 @@ static void call_off(void) { smc(1, OFF, 0, 0, 0); }
 static void call_info(void) { smc(0, INFO, word_of(1), 0, 0); }
 static void call_suspend(void) { smc(0, SUSPEND, CORE_DOWN, 0x40001000, 3); }
 static void call_enter(void) { psci_enter(&firmware, 1, start.life, start.number, start.cause, &said); }
-static void call_machine(void) {
-    struct psci_asked asked;
-    psci_smc_machine(&firmware, &machine, 0, ON, words.mpidrs[1], 0x40001000, 7, &said, &asked);
-}
+static void call_machine(void) { psci_smc(&machine, 0, ON, words.mpidrs[1], 0x40001000, 7, &said); }
 static void call_stop(void) {
     struct psci_stop stop;
     psci_stop(&firmware, 0, SUSPEND, &stop);
@@ -112,7 +109,7 @@ static const struct {
     {"CPU_OFF", run_one, call_off, false},
     {"AFFINITY_INFO", nothing, call_info, false},
     {"CPU_SUSPEND", nothing, call_suspend, false},
-    {"psci_smc_machine", nothing, call_machine, false},
+    {"CPU_ON of a machine", nothing, call_machine, false},
     {"psci_enter", start_one, call_enter, false},
     {"psci_stop", call_suspend, call_stop, false},
     {"psci_take", wake_early, call_take, false},
@@ -142,13 +139,15 @@ static const struct {
     {"psci_ctl_depth", nothing, call_depth, true},
 };
 
-/* A machine and a poller for the firmware as it was just opened; a port has their places all zero at a reset. */
+/* A firmware with a machine, whose boot core runs, and a poller for the one that was just opened; a port has their
+ * places all zero at a reset. */
 static void open_others(void) {
     memset(&machine, 0, sizeof machine);
     memset(&poller, 0, sizeof poller);
     uint32_t opened = psci_open_machine(&machine, &two_by_two, &words, words.mpidrs[0]);
     if (opened != PSCI_OPENED)
         fail("no machine", opened);
+    psci_enter(&machine, 0, 1, 1, PSCI_CAUSE_BOOT, &said);
     if (psci_open_poller(&firmware, &poller) != PSCI_OPENED)
         fail("no poller", 0);
 }

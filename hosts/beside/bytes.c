@@ -34,7 +34,7 @@ static void hold(bool holds, const char *what) {
 
 static struct psci_place firmware;
 static struct psci_ctl_place controller;
-static struct psci_machine_place machine;
+static struct psci_place machine;
 
 /* A firmware of two clusters in which core 0 has started core 3, and its power controller. */
 static void begin(void) {
@@ -141,7 +141,7 @@ int LLVMFuzzerTestOneInput(const uint8_t *data, size_t size) {
         ways[at].read(bytes, size - 1);
         psci_close(&firmware);
         psci_ctl_close(&controller);
-        psci_close_machine(&machine);
+        psci_close(&machine);
         free(bytes);
     }
     return 0;

@@ -15,7 +15,6 @@
 
 static struct naming n;
 static struct psci_place by_machine, by_board;
-static struct psci_machine_place place;
 static struct psci_ctl_place controller;
 static bool initiated, runs[PSCI_MOST_CORES];
 static uint64_t lists, calls, asked_for[PSCI_ASKS_RESET + 1], faults[PSCI_MACHINE_BAD_FUNCTIONS + 1];
@@ -198,17 +197,18 @@ static bool is_same(const struct psci_answer *one, const struct psci_answer *oth
 static void call(uint16_t core) {
     uint64_t x[4], plain[4];
     struct psci_answer one, other;
-    struct psci_asked asked, wanted;
+    struct psci_asked wanted;
     draw_call(x);
     memcpy(plain, x, sizeof x);
     naming_call(&n, initiated, plain, &wanted);
-    psci_smc_machine(&by_machine, &place, core, x[0], x[1], x[2], x[3], &one, &asked);
+    psci_smc(&by_machine, core, x[0], x[1], x[2], x[3], &one);
     psci_smc(&by_board, core, plain[0], plain[1], plain[2], plain[3], &other);
     hold(is_same(&one, &other), "a call has another answer");
-    hold(asked.what == wanted.what && asked.reset == wanted.reset && !memcmp(asked.states, wanted.states, 4),
-         "a call asks otherwise");
+    hold(one.asked.what == wanted.what && one.asked.reset == wanted.reset &&
+             !memcmp(one.asked.states, wanted.states, 4), "a call asks otherwise");
+    hold(other.asked.what == PSCI_ASKS_NOTHING, "a call in the board's words asks something beside");
     calls++;
-    asked_for[asked.what]++;
+    asked_for[wanted.what]++;
     runs[core] = one.what != PSCI_STOP;
     if ((uint32_t)x[0] == 0x8400000f && one.what == PSCI_RETURN && one.code == 0)
         initiated = (uint32_t)x[1];
@@ -219,17 +219,17 @@ static void call(uint16_t core) {
 static void names(void) {
     for (uint32_t core = 0; core < n.cores; core++) {
         uint32_t other = naming_core(&n, core);
-        hold(psci_core_of(&place, n.machine.mpidrs[core]) == other, "the core of an MPIDR");
-        hold(psci_mpidr_of(&place, other) == n.machine.mpidrs[core], "the MPIDR of a core");
-        hold(psci_place_of(&place, 0, other) == core, "the place of a core");
+        hold(psci_core_of(&by_machine, n.machine.mpidrs[core]) == other, "the core of an MPIDR");
+        hold(psci_mpidr_of(&by_machine, other) == n.machine.mpidrs[core], "the MPIDR of a core");
+        hold(psci_place_of(&by_machine, 0, other) == core, "the place of a core");
     }
 }
 
 static void play(void) {
     initiated = false;
     memset(runs, false, sizeof runs);
-    hold(psci_open_board(&by_machine, &n.board) == PSCI_OPENED && psci_open_board(&by_board, &n.board) == PSCI_OPENED &&
-             psci_ctl_open_board(&controller, &n.board) == PSCI_OPENED, "a board does not open");
+    hold(psci_open_board(&by_board, &n.board) == PSCI_OPENED && psci_ctl_open_board(&controller, &n.board) == PSCI_OPENED,
+         "a board does not open");
     names();
     enter(0);
     while (in < end) {
@@ -260,7 +260,7 @@ int LLVMFuzzerTestOneInput(const uint8_t *data, size_t size) {
     granted = SIZE_MAX;
     draw_board();
     draw_machine();
-    uint32_t wanted = naming_fault(&n), opened = psci_open_machine(&place, &n.board, &n.machine, n.boot);
+    uint32_t wanted = naming_fault(&n), opened = psci_open_machine(&by_machine, &n.board, &n.machine, n.boot);
     if (opened != wanted)
         fprintf(stderr, "machines: fault %" PRIu32 ", and not %" PRIu32 "\n", opened, wanted);
     hold(opened == wanted, "a machine is at fault otherwise");
@@ -270,7 +270,6 @@ int LLVMFuzzerTestOneInput(const uint8_t *data, size_t size) {
     psci_close(&by_machine);
     psci_close(&by_board);
     psci_ctl_close(&controller);
-    psci_close_machine(&place);
     return 0;
 }
 

@@ -11,9 +11,6 @@
 extern const struct psci_board board;
 extern const struct psci_machine described;
 
-/* The board's affinity word of each core, by which a poll asks. */
-extern const uint64_t words[CORES];
-
 /* Of each core the nodes that it is below, by the firmware's numbers, from its own up. */
 extern const uint16_t paths[CORES][LEVELS];
 

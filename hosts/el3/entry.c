@@ -10,14 +10,27 @@
 /* The start that each core has entered by. */
 static uint64_t used[CORES];
 
+void begin_stop(unsigned core) { STORE(shared.doors[core].leaves, used[core]); }
+
+/* A WFI, which goes on where an interrupt is there; in that of stand.S the core's power may go. */
+static void rest(const struct last_word *last, enum caches caches) {
+    if (caches == NO_CACHES) {
+        board_waits();
+        return;
+    }
+    gic_sleeps();
+    stand(last, caches);
+    gic_rises();
+}
+
 /* The last thing that a core does in a start. On a machine its power goes here, and it comes back
- * through its reset vector; an emulated core keeps its power, and waits in this loop instead. It takes no lock in it,
- * with which its power could go, but where the controller is in the monitors. */
-void wait_for_start(unsigned core, bool wakes) {
+ * through its reset vector; an emulated core keeps its power, and waits in this loop instead. Once it has said that it
+ * stands it takes no lock, with which its power could go, but where the controller is in the monitors. */
+void wait_for_start(unsigned core, bool wakes, enum caches caches) {
     struct door *door = &shared.doors[core];
     if (!wakes)
         gic_bell_alone();
-    tell_stop(core, used[core]);
+    struct last_word last = tell_stop(core, used[core], caches);
     for (;;) {
         gic_answer();
         if (LOAD(door->opened) != used[core])
@@ -25,7 +38,8 @@ void wait_for_start(unsigned core, bool wakes) {
         if (wakes && gic_wakes() && door->woken != used[core])
             tell_wake_up(core, used[core]);
         relax();
-        board_waits(); /* a WFI goes on where that interrupt is there */
+        rest(&last, caches);
+        last.bell.value = 0;
     }
 }
 
@@ -43,6 +57,8 @@ static void enter_once(unsigned core, struct psci_ctl_start *start, struct psci_
     lock();
     take_acks();
     psci_enter(&firmware, core, start->life, start->number, start->cause, answer);
+    if (answer->what == PSCI_STOP)
+        begin_stop(core);
     record_enter(start, answer);
     post(&answer->message);
     unlock();
@@ -62,7 +78,7 @@ void enter(unsigned core) {
             COUNT(refused);
             say("# el3: the entry of core %u was refused: %u\n", core, answer.what);
         }
-        wait_for_start(core, false);
+        wait_for_start(core, false, OWN_CACHES);
     }
 }
 
@@ -77,7 +93,7 @@ static _Noreturn void lost_registers(unsigned core) {
 /* The number of this core, by its MPIDR. */
 static unsigned find_number(void) {
     lock();
-    *own_number() = psci_core_of(&machine, own_mpidr());
+    *own_number() = psci_core_of(&firmware, own_mpidr());
     unlock();
     return this_core();
 }
@@ -106,7 +122,7 @@ void on_reset(void) {
     unsigned core = find_number();
     gic_start_core(core);
     if (LOAD(shared.doors[core].opened) == used[core])
-        wait_for_start(core, false);
+        wait_for_start(core, false, OWN_CACHES);
     enter(core);
     lost_registers(core);
 }

@@ -5,6 +5,7 @@
 #define GIC_H
 
 #include <stdbool.h>
+#include <stdint.h>
 
 enum { BELL = 15, TIMER = 29 };
 /* Of the 32 interrupts that each core has for itself: all but SGIs 8 to 15 and the secure timer. */
@@ -14,6 +15,10 @@ void gic_start(void);               /* once after a reset, by one core, as the l
 bool gic_is_started(void);          /* not since the machine was reset, whoever did that */
 void gic_start_core(unsigned core); /* by each core that comes out of reset, which can be rung then */
 void gic_ring(unsigned core);
+
+/* What rings this core: a word into a register of the controller, or into ICC_SGI0R_EL1 where `at` is 0. 0 is none. */
+struct bell { uint64_t at, value; };
+struct bell gic_bell(unsigned core);
 
 /* What rang is answered, and rings no more: whether the timer of this core did. */
 bool gic_answer(void);
@@ -26,4 +31,8 @@ bool gic_wakes(void);
 
 /* None is there from now on, until the normal world turns its interface on again. */
 void gic_bell_alone(void);
+
+/* By a core whose power goes, last of all, and by one whose power did not go: its part of the controller sleeps. */
+void gic_sleeps(void);
+void gic_rises(void);
 #endif

@@ -47,9 +47,14 @@ void gic_start_core(unsigned core) {
 /* CTLR: group 0 is on, and is FIQs. The normal world sets and clears the bit of its own group. */
 void gic_bell_alone(void) { mmio32(GICC) = 9; }
 
+struct bell gic_bell(unsigned core) {
+    return (struct bell){GICD + 0xf00, __atomic_load_n(&bells[core], __ATOMIC_SEQ_CST)}; /* SGIR */
+}
+
 void gic_ring(unsigned core) {
+    struct bell bell = gic_bell(core);
     __asm__ volatile("dsb sy" ::: "memory");
-    mmio32(GICD + 0xf00) = __atomic_load_n(&bells[core], __ATOMIC_SEQ_CST);
+    mmio32(bell.at) = bell.value;
 }
 
 bool gic_answer(void) {

@@ -18,6 +18,9 @@ enum { FRAME = 0x20000 };
 /* By which value each core is rung, once it has come out of reset: 0 rings nobody. */
 static uint64_t bells[CORES + 1];
 
+/* Where each core's redistributor stands. */
+static uintptr_t frames[CORES + 1];
+
 /* The affinity fields as the controller has them: in one word, and in that of an SGI. */
 static uint32_t fields_of(uint64_t mpidr) { return (mpidr >> 8 & 0xff000000) | (mpidr & 0xffffff); }
 static uint64_t bell_of(uint64_t mpidr) {
@@ -73,11 +76,20 @@ bool gic_is_started(void) {
     return is_on;
 }
 
+/* WAKER: that the core is to sleep (ProcessorSleep), and whether it does (ChildrenAsleep). */
+static void sleep_or_rise(uintptr_t frame, bool sleeps) {
+    mmio32(frame + 0x14) = (mmio32(frame + 0x14) & ~2u) | sleeps << 1;
+    while ((mmio32(frame + 0x14) >> 2 & 1) != sleeps) {
+    }
+}
+
+void gic_sleeps(void) { sleep_or_rise(frames[this_core()], true); }
+void gic_rises(void) { sleep_or_rise(frames[this_core()], false); }
+
 void gic_start_core(unsigned core) {
     uintptr_t mine = own_frame(), private = mine + 0x10000;
-    mmio32(mine + 0x14) &= ~2u; /* WAKER: the core no longer sleeps */
-    while (mmio32(mine + 0x14) & 4) {
-    }
+    frames[core] = mine;
+    sleep_or_rise(mine, false);
     mmio32(private + 0x80) = NORMAL_WORLD;
     mmio32(private + 0xd00) = 0;
     mmio32(private + 0x100) = 1u << BELL | 1u << TIMER;
@@ -92,9 +104,13 @@ void gic_start_core(unsigned core) {
 
 void gic_bell_alone(void) { write_register(IGRPEN1_EL3, 0); }
 
+struct bell gic_bell(unsigned core) {
+    return (struct bell){0, __atomic_load_n(&bells[core], __ATOMIC_SEQ_CST)};
+}
+
 void gic_ring(unsigned core) {
     __asm__ volatile("dsb sy" ::: "memory");
-    write_register(SGI0R, __atomic_load_n(&bells[core], __ATOMIC_SEQ_CST));
+    write_register(SGI0R, gic_bell(core).value);
 }
 
 bool gic_answer(void) {

@@ -10,3 +10,7 @@ OR_THE_BOARD void board_begins(void) {}
 OR_THE_BOARD void board_resets(unsigned core) { (void)core; }
 OR_THE_BOARD void board_starts(unsigned core, bool was_reset) { (void)was_reset, gic_ring(core); }
 OR_THE_BOARD void board_waits(void) { wait_for_interrupt(); }
+
+/* An interrupt controller that has no part for each core. */
+OR_THE_BOARD void gic_sleeps(void) {}
+OR_THE_BOARD void gic_rises(void) {}

@@ -16,7 +16,7 @@ void board_resets(unsigned core);
 /* Its door is open. */
 void board_starts(unsigned core, bool was_reset);
 
-/* By a core at its door, which has nothing to do. */
+/* By a core at its door whose power stays, and which has nothing to do. */
 void board_waits(void);
 
 /* The machine goes off, or is reset. No core is inside a call. */

@@ -42,21 +42,30 @@ void send(const struct psci_frame *message) {
     gic_ring(SCP);
 }
 
-/* The last thing that a core writes in a start. */
-void tell_stop(unsigned core, uint64_t used) {
+struct last_word tell_stop(unsigned core, uint64_t used, enum caches caches) {
+    struct door *door = &shared.doors[core];
     record_stands(used);
-    STORE(shared.doors[core].stopped, used);
+    if (caches != NO_CACHES)
+        return (struct last_word){&door->stopped, used, gic_bell(SCP)};
+    STORE(door->stopped, used);
+    gic_ring(SCP);
+    return (struct last_word){0};
+}
+
+/* Its power may go at any time, so the word is in memory before it rings. */
+void tell_wake_up(unsigned core, uint64_t used) {
+    struct door *door = &shared.doors[core];
+    STORE(door->woken, used);
+    clean(&door->woken, &door->woken + 1);
     gic_ring(SCP);
 }
 
-void tell_wake_up(unsigned core, uint64_t used) {
-    STORE(shared.doors[core].woken, used);
-    gic_ring(SCP);
-}
+uint64_t clean_start(unsigned core) { return behind_caches(&shared.doors[core].stopped); }
 
 void take_ack(void) {
     uint8_t frame[PSCI_FRAME_LEN];
-    get_frame(&shared.acks, frame);
+    if (!get_frame(&shared.acks, frame))
+        return;
     uint32_t what = psci_take(&firmware, frame, PSCI_FRAME_LEN);
     COUNT(acks);
     record_take(frame, what);

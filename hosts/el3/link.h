@@ -8,12 +8,8 @@
 
 extern struct psci_place firmware;
 
-/* What the machine calls its cores, power states and functions: under the lock of the firmware. */
-extern struct psci_machine_place machine;
-
-/* Each core's own way to ask for the status of a core, without the lock, and what it names cores by. */
+/* Each core's own way to ask for the status of a core, without the lock. */
 extern struct psci_poller pollers[CORES];
-extern struct psci_machine_place own_machines[CORES];
 
 /* Around each call of the firmware. It works since a core turns its MMU and caches on before. */
 extern uint32_t taken;

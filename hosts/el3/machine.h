@@ -17,6 +17,20 @@
 
 static inline void wait_for_interrupt(void) { __asm__ volatile("dsb sy\n wfi" ::: "memory"); }
 
+/* What stands there is in memory, and in the cache of no core that is coherent. */
+static inline void clean(const void *first, const void *end) {
+    uint64_t line = 4ull << (read_register("ctr_el0") >> 16 & 15);
+    for (uintptr_t at = (uintptr_t)first & -line; at < (uintptr_t)end; at += line)
+        __asm__ volatile("dc civac, %0" ::"r"(at) : "memory");
+    __asm__ volatile("dsb sy" ::: "memory");
+}
+
+/* What a core has written behind its caches (stand.S). */
+static inline uint64_t behind_caches(const uint64_t *word) {
+    clean(word, word + 1);
+    return __atomic_load_n(word, __ATOMIC_SEQ_CST);
+}
+
 /* In a loop that waits for another core: it gives its turn away, where cores run in turn. */
 static inline void relax(void) { __asm__ volatile("yield"); }
 

@@ -3,6 +3,7 @@
 #include "gic.h"
 #include "link.h"
 #include "monitor.h"
+#include "power.h"
 #include "record.h"
 
 enum { AFFINITY_INFO = 4, FEATURES = 10 };
@@ -36,11 +37,35 @@ static bool keeps_registers(const struct psci_stop *how) {
     return how->depths[0] == PSCI_CTL_STANDBY || how->depths[0] == PSCI_CTL_RETENTION;
 }
 
-/* Caches are cleaned here, as deep as the core goes. QEMU has none. */
-static void stop(unsigned core, const struct psci_stop *how) {
+/* As deep as the core goes: what it alone has, or with its cluster all that leads to memory. */
+static enum caches caches_of(const struct psci_stop *how) {
+    if (keeps_registers(how))
+        return NO_CACHES;
+    return how->depths[1] == PSCI_CTL_POWER_DOWN ? ALL_CACHES : OWN_CACHES;
+}
+
+/* A stop, and in which start each core was about to stop before. */
+struct stop {
+    struct psci_stop how;
+    uint64_t before[CORES];
+};
+
+/* Who takes a cluster down stopped last in it, and cleans what it shares: once the others, which were on their way before,
+ * have cleaned theirs into that. One that is on its way again has done so. */
+static void await_neighbours(unsigned core, const uint64_t *before) {
+    for (unsigned other = 0; other < CORES; other++)
+        if (other != core && paths[other][1] == paths[core][1])
+            while (LOAD(shared.doors[other].leaves) == before[other] && clean_start(other) != before[other])
+                relax();
+}
+
+static void stop(unsigned core, const struct stop *stop) {
+    enum caches caches = caches_of(&stop->how);
     COUNT(stops);
-    wait_for_start(core, how->wakes);
-    if (!keeps_registers(how))
+    if (caches == ALL_CACHES)
+        await_neighbours(core, stop->before);
+    wait_for_start(core, stop->how.wakes, caches);
+    if (!keeps_registers(&stop->how))
         cold();
     enter(core);
 }
@@ -50,14 +75,21 @@ static void refused(unsigned core, const struct psci_answer *answer) {
     say("# el3: a call of core %u was refused: %u\n", core, answer->what);
 }
 
+/* Under the lock. */
+static void prepare_stop(unsigned core, uint64_t x0, struct stop *stop) {
+    psci_stop(&firmware, core, x0, &stop->how);
+    begin_stop(core);
+    for (unsigned other = 0; other < CORES; other++)
+        stop->before[other] = shared.doors[other].leaves;
+}
+
 /* The answer and, where the core is to stop, how; and the message stands in the mailbox. */
-static void ask(unsigned core, const uint64_t *x, struct psci_answer *answer, struct psci_stop *how) {
-    struct psci_asked asked;
+static void ask(unsigned core, const uint64_t *x, struct psci_answer *answer, struct stop *stop) {
     lock();
     take_acks();
-    psci_smc_machine(&firmware, &machine, core, x[0], x[1], x[2], x[3], answer, &asked);
+    psci_smc(&firmware, core, x[0], x[1], x[2], x[3], answer);
     if (answer->what == PSCI_STOP)
-        psci_stop(&firmware, core, x[0], how);
+        prepare_stop(core, x[0], stop);
     record_call(x, answer);
     post(&answer->message);
     unlock();
@@ -66,7 +98,7 @@ static void ask(unsigned core, const uint64_t *x, struct psci_answer *answer, st
 /* What goes into x0. */
 static uint64_t on_call(unsigned core, const uint64_t *x) {
     struct psci_answer answer;
-    struct psci_stop how;
+    struct stop how;
     ask(core, x, &answer, &how);
     if (answer.what == PSCI_RETURN)
         return register_of(answer.code, x[0]);
@@ -78,11 +110,9 @@ static uint64_t on_call(unsigned core, const uint64_t *x) {
     return 0;
 }
 
-/* It is answered by one load, without the lock: who holds it is not waited for. So the core's own machine
- * is asked, too, which no other core reads. */
+/* It is answered by one load, without the lock: who holds it is not waited for. */
 static uint64_t on_poll(unsigned core, const uint64_t *x) {
-    uint16_t target = psci_core_of(&own_machines[core], named_by(x));
-    int32_t code = psci_poll(&pollers[core], target < CORES ? words[target] : ~0ull);
+    int32_t code = psci_poll(&pollers[core], named_by(x));
     record_poll(x, code);
     return register_of(code, x[0]);
 }
@@ -99,7 +129,7 @@ _Noreturn void on_unexpected(uint64_t vector, uint64_t esr, uint64_t elr, uint64
 void on_exception(struct context *context, uint64_t esr) {
     uint64_t *x = context->x;
     if (esr >> 26 != 0x17) /* no SMC of AArch64 */
-        on_unexpected(8, esr, read_register("elr_el3"), 0);
+        on_unexpected(8, esr, read_register("elr_el3"), read_register("far_el3"));
     else if (!is_psci(x[0]) || asks_of_smccc(x))
         x[0] = answer_beside(x);
     else if (is_poll(x))

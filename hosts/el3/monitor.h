@@ -3,6 +3,7 @@
 #define MONITOR_H
 
 #include "context.h"
+#include "gic.h"
 #include "machine.h"
 
 #include <stdbool.h>
@@ -13,13 +14,23 @@ _Noreturn void cold(void);
 void begin_normal_world(void);
 _Noreturn void leave_for(uint64_t address, uint64_t x0);
 
+/* stand.S: how much of the caches a stop takes down. The last word of a core that stops, where it has one, and what
+ * rings whom it is for: gic.h's bell, or zeros. */
+enum caches { NO_CACHES, OWN_CACHES, ALL_CACHES };
+struct last_word {
+    uint64_t *word, says;
+    struct bell bell;
+};
+void stand(const struct last_word *, enum caches);
+
 /* features.c */
 void open_features(void);
 
 /* entry.c: an entry comes back where the core resumes, with the registers that it kept. */
 _Noreturn void on_reset(void);
 void enter(unsigned core);
-void wait_for_start(unsigned core, bool wakes);
+void begin_stop(unsigned core); /* under the lock: the core is about to stop */
+void wait_for_start(unsigned core, bool wakes, enum caches);
 
 /* smccc.c: what goes into x0 of a call that is none of the firmware's, but of the calling convention
  * itself, or nobody's. */

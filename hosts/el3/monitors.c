@@ -24,16 +24,22 @@ void acknowledge(const uint8_t *frame) {
     }
 }
 
-/* Under the lock, so that no call comes between the word and what has waited for it. The core writes nothing behind
- * the lock, until its door is open. */
-void tell_stop(unsigned core, uint64_t used) {
+/* Under the lock, so that no call comes between the word and what has waited for it. The core has its caches left to
+ * clean: its power goes with its WFI, and no earlier. */
+struct last_word tell_stop(unsigned core, uint64_t used, enum caches caches) {
+    struct door *door = &shared.doors[core];
     lock();
     record_stands(used);
-    STORE(shared.doors[core].stopped, used);
+    STORE(door->stopped, used);
+    if (caches == NO_CACHES)
+        STORE(door->clean, used);
     while (serve_waiting()) {
     }
     unlock();
+    return (struct last_word){.word = &door->clean, .says = used};
 }
+
+uint64_t clean_start(unsigned core) { return behind_caches(&shared.doors[core].clean); }
 
 void tell_wake_up(unsigned core, uint64_t used) {
     lock();

@@ -15,7 +15,7 @@ static uint64_t present_start(unsigned core) {
 
 /* It does in its stop, and before its first start. */
 bool stands_still(unsigned core) {
-    return LOAD(shared.doors[core].stopped) == shared.doors[core].opened;
+    return behind_caches(&shared.doors[core].stopped) == shared.doors[core].opened;
 }
 
 /* What the power hardware does ------------------------------------------------------------------ */
@@ -24,8 +24,11 @@ bool stands_still(unsigned core) {
 static void open_door(const struct psci_ctl_start *start) {
     struct door *door = &shared.doors[start->core];
     bool is_reset = start->cause == PSCI_CAUSE_ON || start->cause == PSCI_CAUSE_RESET;
-    if (is_reset)
+    if (is_reset) {
+        while (clean_start(start->core) != LOAD(door->leaves))
+            relax(); /* what a line cuts is lost */
         board_resets(start->core);
+    }
     door->start = *start;
     STORE(door->opened, start_word(start->life, start->number));
     board_starts(start->core, is_reset);
@@ -66,12 +69,15 @@ static void look_at_stacks(void) {
         }
 }
 
+/* What outlives a reset is in memory, whichever core has it in its caches and is reset with them. */
 static _Noreturn void end_life(bool resets) {
+    extern char kept_start[], kept_end[];
     while (record_tell()) {
     }
     look_at_stacks();
     tell_tally();
     STORE(kept.boot, WARM);
+    clean(kept_start, kept_end);
     board_ends(resets);
 }
 

@@ -2,6 +2,7 @@
 #ifndef POWER_H
 #define POWER_H
 
+#include "monitor.h"
 #include "shared.h"
 
 #include <stdbool.h>
@@ -25,7 +26,11 @@ void open_first_door(void);
 /* scp.c or monitors.c: an acknowledgement goes back. */
 void acknowledge(const uint8_t *frame);
 
-/* link.c or monitors.c, by a core of itself: it stands in its stop of this start; an interrupt is there for it. */
-void tell_stop(unsigned core, uint64_t used);
+/* link.c or monitors.c, by a core of itself: it stands in its stop of this start, which it says now or by its last
+ * word; an interrupt is there for it. */
+struct last_word tell_stop(unsigned core, uint64_t used, enum caches);
 void tell_wake_up(unsigned core, uint64_t used);
+
+/* The last start of the core in which it stood with its caches clean. */
+uint64_t clean_start(unsigned core);
 #endif

@@ -33,6 +33,28 @@
         isb
         .endm
 
+/* Of a processor that needs it, what it predicts in EL3 is nothing that the caller has taught it: 32 branches are more
+ * than any of processor.S remembers. SMCCC_ARCH_WORKAROUND_1 and 3 are such a call, and no more. */
+        .macro  forget_nothing
+        .endm
+        .macro  forget_by_mmu
+        mrs     x1, sctlr_el3
+        bic     x1, x1, #1
+        msr     sctlr_el3, x1
+        isb
+        orr     x1, x1, #1
+        msr     sctlr_el3, x1
+        isb
+        .endm
+        .macro  forget_by_loop
+        mov     x1, #32
+1:      b       2f
+2:      subs    x1, x1, #1
+        b.ne    1b
+        dsb     nsh
+        isb
+        .endm
+
         .macro  own_stack a     /* the stack of this core, whose end is in TPIDR_EL3 */
         mrs     \a, tpidr_el3
         mov     sp, \a
@@ -42,29 +64,44 @@
         .global reset
 reset:  b       cold
 
-        .balign 2048
-vectors:
-        .macro  unexpected_at n
+        .macro  unexpected_at which
         .balign 128
-        mov     x0, #\n
+        mov     x0, #\which
         b       unexpected
         .endm
-        .irp    n, 0,1,2,3,4,5,6,7
-        unexpected_at \n
+
+/* What is not expected: all that comes from EL3 itself; by vector 9 an IRQ, which is not routed here; by 11 an SError
+ * of the normal world; and what comes from AArch32. */
+        .macro  table name, forget
+        .balign 2048
+        .global \name
+\name:
+        .irp    which, 0,1,2,3,4,5,6,7
+        unexpected_at \which
         .endr
         .balign 128             /* synchronous, of a lower level in AArch64 */
         save_context
-        mrs     x1, esr_el3
-        bl      on_exception
-        leave
-        unexpected_at 9         /* IRQ: not routed here */
+        \forget
+        b       called
+        unexpected_at 9
         .balign 128             /* FIQ: the bell, or the secure timer */
         save_context
-        bl      on_fiq
-        leave
-        .irp    n, 11,12,13,14,15
-        unexpected_at \n
+        \forget
+        b       rung
+        .irp    which, 11,12,13,14,15
+        unexpected_at \which
         .endr
+        .endm
+        table   vectors, forget_nothing
+        table   vectors_mmu, forget_by_mmu
+        table   vectors_loop, forget_by_loop
+
+called: mrs     x1, esr_el3
+        bl      on_exception
+        leave
+
+rung:   bl      on_fiq
+        leave
 
         .text
 /* _Noreturn void leave_for(uint64_t address, uint64_t x0): enters the normal world there, at EL2
@@ -94,8 +131,8 @@ unexpected:                             /* it ends the core's work, so its stack
         .global cold
 cold:
         msr     daifset, #15
-        adr     x0, vectors
-        msr     vbar_el3, x0
+        bl      find_vectors
+        msr     vbar_el3, x4
         bl      before_caches
         mov     x0, #0x04ff             /* MAIR: 0 is normal, write-back; 1 is a device, nGnRE */
         msr     mair_el3, x0
@@ -103,7 +140,10 @@ cold:
         msr     tcr_el3, x0
         adrp    x0, map
         msr     ttbr0_el3, x0
-        tlbi    alle3
+        tlbi    alle3                   /* nothing of before: a core out of coherency has heard of no change */
+        tlbi    alle2
+        tlbi    alle1
+        ic      iallu
         dsb     sy
         isb
         ldr     x0, =SCTLR              /* the MMU and both caches are on, before any shared memory */
@@ -111,7 +151,7 @@ cold:
         isb
         ldr     x0, =FREQUENCY          /* what counts beside, and nobody has set before */
         msr     cntfrq_el0, x0
-        mov     x0, #0x535              /* SCR: NS, HCE, RW, FIQs come here, SMD clear */
+        mov     x0, #0x53d              /* SCR: NS, HCE, RW; FIQs, SErrors and external aborts come here; SMD clear */
         msr     scr_el3, x0
         msr     cptr_el3, xzr
         msr     mdcr_el3, xzr

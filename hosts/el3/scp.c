@@ -6,9 +6,6 @@
 #include "power.h"
 #include "record.h"
 
-/* Of each core the last start in whose stop it was woken. */
-static uint64_t heard[CORES];
-
 /* A core that executes is rung. Where none does, the next one that enters takes it. */
 void acknowledge(const uint8_t *frame) {
     put_frame(&shared.acks, frame);
@@ -43,17 +40,16 @@ static bool serve_message(void) {
     return true;
 }
 
-/* An interrupt waits for the core in its stop of this start, of which nothing was heard before. */
+/* An interrupt waits for the core in its stop of this start, of which nothing was heard before: by what is heard it is
+ * started, and its door has another start. */
 static bool is_woken(unsigned core) {
     const struct door *door = &shared.doors[core];
-    return door->opened && stands_still(core) && LOAD(door->woken) == door->opened
-        && heard[core] != door->opened;
+    return door->opened && stands_still(core) && LOAD(door->woken) == door->opened;
 }
 
 static bool serve_wake(void) {
     for (unsigned core = 0; core < CORES; core++)
         if (is_woken(core)) {
-            heard[core] = shared.doors[core].opened;
             wake(core);
             return true;
         }

@@ -3,6 +3,5 @@
 
 struct shared shared;
 struct psci_place firmware;
-struct psci_machine_place machine, own_machines[CORES];
 struct psci_poller pollers[CORES];
 uint32_t taken;

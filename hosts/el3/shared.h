@@ -14,12 +14,18 @@ static inline uint64_t start_word(uint32_t life, uint32_t number) {
     return (uint64_t)life << 32 | number;
 }
 
-/* A core and the power controller. Each word has one writer. */
+/* At least as long as a line of the caches of any core. */
+enum { LINE = 256 };
+#define OWN_LINE __attribute__((aligned(LINE)))
+
+/* A core and the power controller. Each word has one writer, and what is written behind caches shares no line. */
 struct door {
     struct psci_ctl_start start; /* the controller: the core's last start, and then */
     uint64_t opened;             /* that it is to enter by this one */
-    uint64_t stopped;            /* the core, last of all: it stands in its stop of this start */
-    uint64_t woken;              /* the core: an interrupt is there for it, in its stop of this start */
+    uint64_t leaves;             /* the core, under the lock: it is about to stop in this start */
+    uint64_t stopped OWN_LINE;   /* the core: it stands in its stop of this start */
+    uint64_t clean OWN_LINE;     /* the core, where it says before that it stands: so do its caches */
+    uint64_t woken OWN_LINE;     /* the core: an interrupt is there for it, in its stop of this start */
 };
 
 /* Frames in the order in which they were made, of one writer (the holder of the lock, or the system

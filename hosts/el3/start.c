@@ -14,9 +14,9 @@ extern char data_start[], data_end[], data_load[], bss_start[], bss_end[], kept_
 
 struct kept kept __attribute__((section(".kept")));
 
-/* The heaps, which the library asks as it opens and at no other time: of the firmware and of a machine for each
- * core and one for the firmware; of the power controller and of the reader of frames. */
-static unsigned char heap[POOL_SIZE(CORES) + (CORES + 1) * POOL_MACHINE_SIZE(CORES)] __attribute__((aligned(16)));
+/* The heaps, which the library asks as it opens and at no other time: of the firmware with its machine; of the power
+ * controller and of the reader of frames. */
+static unsigned char heap[POOL_SIZE(CORES) + POOL_MACHINE_SIZE(CORES)] __attribute__((aligned(16)));
 static unsigned char kept_heap[2 * POOL_SIZE(CORES)] __attribute__((aligned(16), section(".kept")));
 
 static void check(const char *what, uint32_t opened) {
@@ -27,22 +27,13 @@ static void check(const char *what, uint32_t opened) {
         wait_for_interrupt();
 }
 
-static void open_machine(struct psci_machine_place *place) {
-    check("the machine", psci_open_machine(place, &board, &described, BOOT));
-}
-
 static void open_firmware(void) {
     pool_give(heap, sizeof heap);
-    check("the firmware", psci_open_board(&firmware, &board));
+    check("the firmware", psci_open_machine(&firmware, &board, &described, BOOT));
     for (unsigned core = 0; core < CORES; core++)
         check("a poller", psci_open_poller(&firmware, &pollers[core]));
-    unsigned without = pool_taken();
-    open_machine(&machine);
-    for (unsigned core = 0; core < CORES; core++)
-        open_machine(&own_machines[core]);
     if (kept.boot != WARM)
-        say("# el3: heap of the firmware: %u, and of its machines: %u\n", without,
-            (unsigned)pool_taken() - without);
+        say("# el3: heap of the firmware: %u\n", (unsigned)pool_taken());
 }
 
 static void open_controller(void) {
@@ -61,6 +52,7 @@ void start_machine(void) {
     STORE(kept.boot, is_warm ? WARM : 0);
     memcpy(data_start, data_load, data_end - data_start);
     memset(bss_start, 0, bss_end - bss_start);
+    clean(bss_start, bss_end); /* what is written behind caches has no old line in one */
     board_begins();
     if (is_cut)
         say("\n# el3: a reset that nobody here has ordered\n");

@@ -12,6 +12,14 @@ A list has a line for each step:
                                        word, until AFFINITY_INFO says so
     CORE await CORE TIMES              until that core has entered TIMES times, for at most 300 ms
     CORE delay MICROSECONDS
+    CORE beat                          counts for ever, also behind the end of the life, which the record then tells
+    CORE quiet CORE                    whether that core, which is to stand, still counts
+    CORE open SGI                      turns this software interrupt on for the core
+    CORE ring CORE SGI                 makes it pending for that core
+    CORE rung SGI                      whether it is pending for this core
+    CORE leave SPI                     a shared interrupt is on and pending
+    CORE left                          whether any but the timer's is on, pending or active
+    CORE mark                          a trap in HCR_EL2, which the core's next entry must not find there
     CORE storm SEED MANY STANDBY DOWN [1]
                                        MANY drawn calls of each core, with these power states (0: none); with 1
                                        every second call is a rare one, good or bad
@@ -30,7 +38,8 @@ TOP = os.path.dirname(os.path.dirname(os.path.dirname(os.path.abspath(__file__))
 sys.path[:0] = [f"{TOP}/tools", f"{TOP}/model"]
 from judge.words import word_of
 
-KINDS = ("call", "stop", "poll", "sleep", "delay", "await", "storm", "visit")
+KINDS = ("call", "stop", "poll", "sleep", "delay", "await", "storm", "visit",
+         "beat", "quiet", "open", "ring", "rung", "leave", "left", "mark")
 # a word that counts from the entry points, or from where the image is
 FROM_ENTRIES, FROM_IMAGE = 1, 16
 # where the far entry points are, from the image
@@ -58,7 +67,7 @@ def step(core, kind, words, need, life):
     if kind in ("sleep", "poll") or "by" in words:
         more = word(words[-1])[0]
         words = words[:-2]
-    elif kind in ("await", "delay", "storm"):
+    elif kind in ("await", "delay", "storm", "ring"):
         at = 0 if kind == "delay" else 1
         more = int(words[at], 0)
         words = words[:at] + words[at + 1:]

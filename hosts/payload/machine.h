@@ -10,7 +10,7 @@ enum { OF_PL011, OF_8250, OF_CADENCE };
 struct machine {
     uint32_t is_smc, gic_version, cores;
     uint32_t timer; /* the number of the timer's interrupt */
-    uint64_t uart, uart_kind, virtio; /* the console: of a UART, or else of virtio */
+    uint64_t uart, uart_kind, uart_shift, virtio; /* the console: of a UART, or else of virtio */
     uint64_t gic, gic_of_core; /* the distributor; the CPU interface, or the redistributors */
     uint64_t memory, memory_end;
 };
@@ -23,7 +23,7 @@ extern char head[], entries[], from_entry[];
 int is_virtio_console(uint64_t at);
 void virtio_put(char letter);
 
-/* Reads a device tree; says whether it is one that has all that is needed. */
+/* Reads a device tree; says whether it has cores and a console. */
 int read_tree(const void *tree);
 
 /* Writes entry points into the memory, far from the image. */

@@ -1,9 +1,11 @@
 #include "play.h"
 #include "clock.h"
+#include "odd.h"
 #include "record.h"
 
 enum { STEP_TIME = 3000000, ENTRY_TIME = 300000, POLL_TIME = 300000 };
 enum { CPU_OFF = 0x84000002, SYSTEM_OFF = 0x84000008, SYSTEM_RESET, SYSTEM_RESET2 = 0x84000012 };
+enum { LACKS = 0x3c, PSC = 'C' << 24 | 'S' << 16 | 'P' << 8 };
 enum { SMC64 = 0x40000000, AFFINITY_INFO = 0x84000004 | SMC64, IS_OFF = 1, ALL_MASKED = 0x3c0, MMU_OR_CACHE = 5 };
 
 struct state { uint64_t level, masks, control; };
@@ -59,7 +61,7 @@ uint64_t ask(uint32_t core, const uint64_t x[4], enum told told) {
     uint64_t y[4], lost;
     uint32_t number, begin, end;
     if (storm.is_on) return ask_in_storm(core, x);
-    if (may_end_life((uint32_t)x[0])) line_told();
+    if (may_end_life((uint32_t)x[0])) line_told(), life_ends();
     copy4(y, x);
     number = cores[core].number++;
     begin = tick();
@@ -149,6 +151,7 @@ static void look_at_state(uint64_t core) {
     struct state state = entry_state();
     if (state.level != boot_level || state.masks != ALL_MASKED || state.control & MMU_OR_CACHE)
         LINE("state", core, state.level, state.masks, state.control);
+    look_at_entry((uint32_t)core);
 }
 
 static void suspend(uint32_t core, const uint64_t x[4], uint64_t microseconds) {
@@ -171,6 +174,14 @@ static void play(uint32_t core, const struct step *step) {
     case DELAY: delay(core, step->more); break;
     case AWAIT: await(core, (uint32_t)x[0], (uint32_t)step->more); break;
     case VISIT: visit(core, x, step->more); break;
+    case BEAT: add(&done, 1), beat(core); return;
+    case QUIET: look_for_beats((uint32_t)x[0]); break;
+    case OPEN: ring_on((uint32_t)x[0]); break;
+    case RING: ring((uint32_t)x[0], (uint32_t)step->more); break;
+    case RUNG: look_for_rings(core, (uint32_t)x[0]); break;
+    case LEAVE: leave_interrupt((uint32_t)x[0]); break;
+    case LEFT: look_for_interrupts(core); break;
+    case MARK: mark(core); break;
     case STORM:
         storm.seed = x[0], storm.standby = x[1], storm.down = x[2], storm.is_wide = x[3];
         storm.many = step->more;
@@ -206,6 +217,7 @@ static void play_all(uint32_t core) {
 static int begin_life(void) {
     uint32_t last = list.steps ? list.step[list.steps - 1].life : 0, first = 0;
     life = survived.name == list.name ? survived.lives : 0;
+    life_begins();
     survived.name = life <= last ? list.name : 0;
     survived.lives = life + 1;
     while (first < list.steps && list.step[first].life != life) first++;
@@ -214,19 +226,39 @@ static int begin_life(void) {
     return life <= last;
 }
 
+/* Whether a core of the list sleeps, which its timer ends by an interrupt. */
+static int is_to_wake(void) {
+    for (uint32_t at = 0; at < list.steps; at++) {
+        const struct step *step = &list.step[at];
+        if (step->kind == SUSPEND || (step->kind == STORM && (step->x[1] || step->x[2] || step->x[3]))) return 1;
+        if (step->kind >= OPEN && step->kind < MARK) return 1;
+    }
+    return 0;
+}
+
+/* Which of these the tree does not have: on the console, or else in a word of the image's header. */
+static void lacks_tree(void) {
+    int has_console = machine.uart || machine.virtio;
+    *(volatile uint32_t *)(head + LACKS) =
+        PSC | !has_console << 3 | !machine.timer << 2 | !machine.gic << 1 | !machine.cores;
+    if (has_console) LINE("without", !machine.cores, !machine.gic, !machine.timer);
+}
+
 void booted(const void *tree) {
     /* where a loader hands over none, it stands at the beginning of the memory */
     if ((uintptr_t)tree < 4096 || (uintptr_t)tree & 7 ||
         *(const uint32_t *)tree != __builtin_bswap32(0xd00dfeed))
         tree = (const void *)((uintptr_t)head & ~0x3ffffffful);
-    if (!read_tree(tree)) { /* which of these the tree does not have, where there is a console to say so */
-        if (machine.uart || machine.virtio)
-            LINE("without", !machine.cores, !machine.gic, !machine.timer);
+    int has_tree = read_tree(tree), wakes = machine.gic && machine.timer;
+    if (!has_tree || (!wakes && is_to_wake())) {
+        lacks_tree();
+        if (has_tree) conduit_call((uint64_t[4]){SYSTEM_OFF}, machine.is_smc);
         return;
     }
     int is_of_list = begin_life();
     boot_level = entry_state().level;
     LINE("head", 1, (uintptr_t)head, (uintptr_t)entries, machine.is_smc, machine.cores, 0);
+    look_at_entry(0);
     interrupts_ready();
     places_ready();
     cores[0].entries = cores[0].is_up = 1;

@@ -3,7 +3,7 @@
 #define PAYLOAD_PLAY_H
 #include "machine.h"
 
-enum kind { CALL, STOP, POLL, SUSPEND, DELAY, AWAIT, STORM, VISIT };
+enum kind { CALL, STOP, POLL, SUSPEND, DELAY, AWAIT, STORM, VISIT, BEAT, QUIET, OPEN, RING, RUNG, LEAVE, LEFT, MARK };
 
 /* assemble.py writes it so: behind the image stand a `list`, and its steps */
 struct step {

@@ -25,7 +25,7 @@ static void put(char letter) {
         while (load(machine.uart + STATUS_CADENCE) & FULL_CADENCE) {}
         store(machine.uart + QUEUE_CADENCE, (uint8_t)letter);
     } else if (machine.uart_kind == OF_8250) {
-        while (!(*(volatile uint8_t *)(machine.uart + STATUS_8250) & EMPTY_8250)) {}
+        while (!(*(volatile uint8_t *)(machine.uart + (STATUS_8250 << machine.uart_shift)) & EMPTY_8250)) {}
         store_byte(machine.uart, (uint8_t)letter);
     } else {
         while (load(machine.uart + UART_FLAGS) & UART_FULL) {}

@@ -10,7 +10,7 @@ uint64_t affinities[MOST_CORES];
 struct node {
     const char *compatible, *method, *device_type, *status;
     const uint32_t *reg, *interrupts;
-    uint32_t compatible_length, interrupts_length, address_cells, size_cells;
+    uint32_t compatible_length, interrupts_length, address_cells, size_cells, reg_shift;
 };
 
 static uint32_t big(const uint32_t *at) { return __builtin_bswap32(*at); }
@@ -62,7 +62,7 @@ static void keep(const struct node *node, const struct node *above) {
     if (node->method) machine.is_smc = same(node->method, "smc");
     if (is_compatible(node, "arm,pl011") && !machine.uart) machine.uart = at;
     if (is_compatible(node, "ns16550a") && !machine.uart)
-        machine.uart = at, machine.uart_kind = OF_8250;
+        machine.uart = at, machine.uart_kind = OF_8250, machine.uart_shift = node->reg_shift;
     if (is_compatible(node, "cdns,uart-r1p12") && !machine.uart)
         machine.uart = at, machine.uart_kind = OF_CADENCE;
     if (is_compatible(node, "virtio,mmio") && at && is_virtio_console(at)) machine.virtio = at;
@@ -83,6 +83,7 @@ static void property(struct node *node, const char *name, const uint32_t *value,
     if (same(name, "device_type")) node->device_type = (const char *)value;
     if (same(name, "status")) node->status = (const char *)value;
     if (same(name, "reg")) node->reg = value;
+    if (same(name, "reg-shift")) node->reg_shift = big(value);
     if (same(name, "interrupts")) node->interrupts = value, node->interrupts_length = length;
     if (same(name, "#address-cells")) node->address_cells = big(value);
     if (same(name, "#size-cells")) node->size_cells = big(value);
@@ -109,5 +110,5 @@ int read_tree(const void *tree) {
             at += 2 + (big(at) + 3) / 4;
         } else if (token != NOTHING) break;
     }
-    return machine.cores && (machine.uart || machine.virtio) && machine.gic && machine.timer;
+    return machine.cores && (machine.uart || machine.virtio);
 }

@@ -15,12 +15,13 @@
 struct shared shared;
 struct kept kept;
 struct psci_place firmware;
-struct psci_machine_place machine;
 uint32_t taken;
 void take_ack(void) {}
 void open_first_door(void) { abort(); }
 void board_comes_out(void) {}
 void board_waits(void) { wait_for_interrupt(); }
+void gic_sleeps(void) {}
+void gic_rises(void) {}
 void send(const struct psci_frame *message) { (void)message; }
 void serve_link(void) {}
 void say(const char *form, ...) { (void)form; }
@@ -68,10 +69,18 @@ void gic_ring(unsigned core) {
     step();
 }
 
-/* As link.c has it. */
-void tell_stop(unsigned core, uint64_t used) {
-    STORE(shared.doors[core].stopped, used);
-    gic_ring(SCP);
+/* As link.c and stand.S have it. */
+struct last_word tell_stop(unsigned core, uint64_t used, enum caches caches) {
+    (void)caches;
+    return (struct last_word){&shared.doors[core].stopped, used, {0, 1}};
+}
+
+void stand(const struct last_word *last, enum caches caches) {
+    (void)caches;
+    STORE(*last->word, last->says);
+    if (last->bell.value)
+        gic_ring(SCP);
+    wait_for_interrupt();
 }
 
 void tell_wake_up(unsigned core, uint64_t used) {
@@ -113,7 +122,7 @@ static bool comes_through(unsigned opened, unsigned woken) {
     starts++;
     if (setjmp(stuck))
         return false;
-    wait_for_start(CORE, wakes);
+    wait_for_start(CORE, wakes, OWN_CACHES);
     if (LOAD(shared.doors[CORE].opened) != starts)
         return false;
     enter(CORE);

@@ -1,4 +1,4 @@
-/* What the boot core does after a reset, by start.c: it opens the firmware, a poller and a machine for each core,
+/* What the boot core does after a reset, by start.c: it opens the firmware with its machine, a poller for each core,
  * and the power controller. What it says of its heaps is printed; where one does not suffice, the status is 1. */
 #include "console.h"
 #include "gic.h"
@@ -27,7 +27,6 @@ void board_begins(void) {}
 
 /* What shared.c has. */
 struct psci_place firmware;
-struct psci_machine_place machine, own_machines[CORES];
 struct psci_poller pollers[CORES];
 
 int main(void) {

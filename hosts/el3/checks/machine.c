@@ -5,6 +5,7 @@
 #include "gic.h"
 #include "link.h"
 #include "monitor.h"
+#include "processor.h"
 #include "record.h"
 
 #include <pthread.h>
@@ -44,6 +45,7 @@ uint32_t draw(uint32_t below) {
 /* Resets ------------------------------------------------------------------------------------- */
 
 static void reset_devices(void) {
+    nobody_cleans();
     for (unsigned at = 0; at < THREADS; at++) {
         PUT(cpus[at].bell, 0);
         PUT(cpus[at].irq, 0);
@@ -141,6 +143,19 @@ void host_wait(void) {
     PUT(me->waits_since, 0);
 }
 
+/* What stand.S does, without caches; that takes some time. */
+void stand(const struct last_word *last, enum caches caches) {
+    if (draw(3) == 0)
+        nap(draw(1000));
+    cleans(caches);
+    STORE(*last->word, last->says);
+    if (last->bell.value)
+        gic_ring(SCP);
+    host_wait();
+}
+
+const struct part parts[] = {{0}};
+
 bool is_called(void) { return GET(me->bell) || is_time(); }
 
 /* The interrupt controller ------------------------------------------------------------------- */
@@ -157,6 +172,8 @@ void gic_bell_alone(void) {
     executes();
 }
 bool gic_wakes(void) { return GET(me->irq) && me->is_irq_on; }
+
+struct bell gic_bell(unsigned core) { return (struct bell){0, 1 + core}; }
 
 /* Who rings is slow now and then, so that the other one is there first. */
 void gic_ring(unsigned core) {

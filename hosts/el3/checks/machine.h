@@ -4,11 +4,15 @@
 #define MACHINE_H
 
 #define AFFINITY 0xff00ffffff
+#ifdef BOARD_PLACE
+#include "place.h"
+#else
 #define PINS 0x090b0000
 #define FREQUENCY 50000000
 #define DEVICE_TREE 0x47000000
 #define RECORD_START 0x0e400000
 #define RECORD_END 0x12000000
+#endif
 
 #include <stdint.h>
 
@@ -28,6 +32,8 @@ static inline const volatile uint64_t *stack_end(unsigned at) {
     (void)at;
     return &nothing;
 }
+static inline void clean(const void *first, const void *end) { (void)first, (void)end; }
+static inline uint64_t behind_caches(const uint64_t *word) { return __atomic_load_n(word, __ATOMIC_SEQ_CST); }
 static inline void wait_for_interrupt(void) { host_wait(); }
 static inline void relax(void) { host_relax(); }
 static inline uint64_t *own_place(void) { return host_place(); }

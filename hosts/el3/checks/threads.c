@@ -180,10 +180,10 @@ int main(int many, char **words) {
     setvbuf(life.told, NULL, _IOLBF, 1 << 16);
     mmap((void *)RECORD_START, RECORD_END - RECORD_START, PROT_READ | PROT_WRITE,
          MAP_PRIVATE | MAP_ANONYMOUS | MAP_FIXED, -1, 0);
-    for (unsigned at = 0; at < THREADS; at++) {
+    for (unsigned at = 0; at < THREADS; at++)
         cpus[at] = (struct cpu){.id = at, .seed = strtoul(words[1], NULL, 10) * 1000003 + at * 7919};
+    for (unsigned at = 0; at < THREADS; at++)
         pthread_create(&threads[at], NULL, run, &cpus[at]);
-    }
     pthread_create(&watcher, NULL, watch, NULL);
     for (unsigned at = 0; at < THREADS; at++)
         pthread_join(threads[at], NULL);

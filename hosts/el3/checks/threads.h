@@ -3,6 +3,7 @@
 #define THREADS_H
 
 #include "board.h"
+#include "monitor.h"
 
 #include <setjmp.h>
 #include <stdbool.h>
@@ -52,5 +53,6 @@ void is_wrong(const char *what, uint64_t value);
 void *watch(void *);
 void look_at_doors(void); /* as a life ends: whether a core sleeps that was started, and that nobody rings any more */
 void executes(void); /* by a core that does not stand in its stop */
+void cleans(enum caches), nobody_cleans(void); /* by a core, its caches; at a reset, none is left to clean */
 void has_rung(void), owes_no_bell(void); /* the control processor has rung a core; it is about to sleep */
 #endif

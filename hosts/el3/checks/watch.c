@@ -17,6 +17,10 @@ static volatile unsigned seen;
 /* Of each core the start in whose stop it was woken. */
 static uint64_t woken[CORES];
 
+/* How often each core was about to stop, and had its caches clean by then; and how often each was as this one stopped. */
+static uint32_t stops[CORES], cleaned[CORES];
+static _Thread_local uint32_t before[CORES];
+
 void is_wrong(const char *what, uint64_t value) {
     if (__atomic_fetch_add(&life.wrong, 1, __ATOMIC_RELAXED) < 5)
         fprintf(stderr, "wrong: %s: 0x%llx\n", what, (unsigned long long)value);
@@ -29,12 +33,10 @@ void executes(void) {
 
 /* The firmware ------------------------------------------------------------------------------- */
 
-void __real_psci_smc_machine(struct psci_place *, struct psci_machine_place *, uint16_t, uint64_t, uint64_t, uint64_t,
-                             uint64_t, struct psci_answer *, struct psci_asked *);
-void __wrap_psci_smc_machine(struct psci_place *place, struct psci_machine_place *words, uint16_t core, uint64_t x0,
-                             uint64_t x1, uint64_t x2, uint64_t x3, struct psci_answer *answer,
-                             struct psci_asked *asked) {
-    __real_psci_smc_machine(place, words, core, x0, x1, x2, x3, answer, asked);
+void __real_psci_smc(struct psci_place *, uint16_t, uint64_t, uint64_t, uint64_t, uint64_t, struct psci_answer *);
+void __wrap_psci_smc(struct psci_place *place, uint16_t core, uint64_t x0, uint64_t x1, uint64_t x2, uint64_t x3,
+                     struct psci_answer *answer) {
+    __real_psci_smc(place, core, x0, x1, x2, x3, answer);
     me->answer = *answer;
     me->asked++;
     if (answer->what == PSCI_STOP)
@@ -46,6 +48,23 @@ void __real_psci_stop(struct psci_place *, uint16_t, uint64_t, struct psci_stop 
 void __wrap_psci_stop(struct psci_place *place, uint16_t core, uint64_t x0, struct psci_stop *how) {
     __real_psci_stop(place, core, x0, how);
     stands[core].wakes = how->wakes;
+    PUT(stops[core], GET(stops[core]) + 1);
+    for (unsigned other = 0; other < CORES; other++)
+        before[other] = GET(stops[other]);
+}
+
+void nobody_cleans(void) {
+    for (unsigned core = 0; core < CORES; core++)
+        PUT(cleaned[core], GET(stops[core]));
+}
+
+/* What a cluster shares is clean once all that its cores had is in it. */
+void cleans(enum caches caches) {
+    unsigned core = me->number;
+    PUT(cleaned[core], GET(stops[core]));
+    for (unsigned other = 0; other < CORES && caches == ALL_CACHES; other++)
+        if (paths[other][1] == paths[core][1] && GET(cleaned[other]) < before[other])
+            is_wrong("the caches of a cluster are cleaned before those of this core", other);
 }
 
 void __real_psci_enter(struct psci_place *, uint16_t, uint32_t, uint32_t, uint32_t, struct psci_answer *);

@@ -7,8 +7,6 @@
     0, 0x100, 0x200, 0x300
 
 #ifndef __ASSEMBLER__
-#define WORDS \
-    0, 1, 0x100, 0x101
 #define PATHS \
     {0, 0, 0}, {1, 0, 0}, {2, 1, 0}, {3, 1, 0}
 #define BOARD \

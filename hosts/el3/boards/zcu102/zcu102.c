@@ -3,6 +3,7 @@
 #include "console.h"
 #include "gic.h"
 #include "hooks.h"
+#include "monitor.h"
 #include "shared.h"
 #include "string.h"
 
@@ -48,7 +49,7 @@ void board_comes_out(void) {
     STORE(gate->seen, pulsed);
     while (LOAD(gate->open) != LOAD(gate->pulsed) && !(own_mpidr() == BOOT && !gic_is_started()))
         relax();
-    if (was_reset)
+    if (was_reset || !gic_is_started())
         gic_forget();
 }
 
@@ -66,8 +67,8 @@ void board_starts(unsigned core, bool was_reset) {
 static void place_images(void) {
     const struct { uint64_t to, size, from; } *it = (const void *)STAGED;
     for (; it->size; it++)
-        memcpy((void *)it->to, (const void *)it->from, it->size);
-    __asm__ volatile("dsb sy\n ic iallu\n dsb sy\n isb" ::: "memory");
+        clean(memcpy((void *)it->to, (const void *)it->from, it->size), (void *)(it->to + it->size));
+    __asm__ volatile("ic iallu\n dsb sy\n isb" ::: "memory");
 }
 
 static void start_uart(uintptr_t at) {
@@ -94,7 +95,6 @@ static _Noreturn void switch_off(void) {
 /* All others are reset until they are seen at their gates, and held there in reset but for the boot core, which finds
  * the controller off, and begins. */
 static _Noreturn void begin_anew(void) {
-    _Noreturn void cold(void);
     unsigned own = place_of(own_mpidr()), first = place_of(BOOT);
     for (unsigned at = 0; at < CORES; at++)
         if (at != own && (gates[at].pulsed || at == first)) {
@@ -106,7 +106,7 @@ static _Noreturn void begin_anew(void) {
         cold();
     gic_bell_alone();
     for (;;)
-        wait_for_interrupt();
+        stand(&(struct last_word){0}, OWN_CACHES);
 }
 
 _Noreturn void board_ends(bool resets) {
