@@ -59,7 +59,7 @@ released_by_pkg_config() {
 
 # as_said NAME FOLDER COMMAND..: what the README of the archive says works there
 as_said() {
-    cp tests/programs/linked.cpp "$2/.."
+    cp tests/hosts/programs/linked.cpp "$2/.."
     if "${@:3}" > "$work/out" 2>&1 && [ "$(tail -n 1 "$work/out")" = "all is as the README says" ]; then pass; else
         fail "$1: $(tail -n 1 "$work/out")"
     fi
