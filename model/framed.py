@@ -26,7 +26,7 @@ from views.record import Record as Run
 # the crates with examples of frames, and their files; how often each fault has to come
 PROVED, LEAST = (("psci_link", "*Rows"), ("psci_examples", "FramePairRows")), 20
 # records whose runs the model goes through, besides reading their frames
-RUNS = ("tests/records/short.record", "hosts/el3/runs/probe.record.xz", "hosts/el3/runs/os-initiated.record.xz")
+RUNS = ("tests/hosts/records/short.record", "hosts/el3/runs/probe.record.xz", "hosts/el3/runs/os-initiated.record.xz")
 BOARDS = ("2 exec 0x0-0x4 boot 0x0 starts 9 lives 9", "(2 2) exec 0x0-0x4 boot 0x0 starts 9 lives 9",
           "((1 2) (3)) exec 0x0-0x4 boot 0x0 starts 9 lives 9")
 

@@ -3,7 +3,7 @@
 
 `told` alone makes it, of how many were looked at and of the program that answered, which it names as it is, proved or
 not. Of nothing it says nothing: that raises Nothing, a failure with a status of its own. Whoever says "proved",
-"differ" or "seen" of what was tried says it by this (tests/sentences looks).
+"differ" or "seen" of what was tried says it by this (tests/docs/sentences looks).
 
     tools/sentence.py TEXT COUNT WHAT       prints it for a shell; its status is 7 where COUNT is 0
     tools/sentence.py planted SEEN UNSEEN   the same of planted faults; its status is 1 where one is not seen

@@ -6,7 +6,11 @@ from collections import namedtuple
 MARK, END = "psci: ", " ."
 # how many numbers each kind of line has
 FIELDS = {"head": 6, "call": 14, "open": 7, "enter": 5, "late": 2, "lacks": 5, "fault": 3, "lost": 2, "state": 4,
-          "told": 2}
+          "odd": 3, "told": 2}
+# what the payload sees beside answers (hosts/payload/odd.h)
+ODD = ("it executes, and nobody has started it in this life", "an interrupt that was pending is lost",
+       "interrupts that a reset has left", "registers of EL2 as they were before the entry",
+       "CNTFRQ_EL0 is not that of the boot core")
 # kinds whose lines a core counts
 COUNTED = ("call", "open", "enter", "lacks")
 FORM, NUMBER = 1, re.compile("[0-9a-f]{1,16}")
@@ -34,6 +38,7 @@ def lines_of(file):
         line = Line(at, kind, [int(it, 16) for it in numbers if NUMBER.fullmatch(it)], text)
         wants(len(line.numbers) == len(numbers), line, "not a hexadecimal number")
         wants(len(numbers) == FIELDS.get(kind), line, "not a line of a record")
+        wants(kind != "odd" or line.numbers[1] < len(ODD), line, "not a line of a record")
         yield line
 
 

@@ -2,7 +2,7 @@
 from collections import namedtuple
 
 from . import lines
-from .lines import Unreadable, is_of_calls  # noqa: F401
+from .lines import ODD, Unreadable, is_of_calls  # noqa: F401
 from .words import CONVENTION, LOW, SLEEPS, STOPS, code_of, name_of
 
 INFINITE = float("inf")
@@ -74,6 +74,8 @@ def remark(life, kind, numbers):
     elif kind == "lost":
         names = names_of(numbers[1], 4)
         life.remarks.append(Remark("fault", "registers that changed without a call", f"core {numbers[0]}: {names}"))
+    elif kind == "odd":
+        life.remarks.append(Remark("fault", ODD[numbers[1]], f"core {numbers[0]}: {numbers[2]:#x}"))
     else:
         text = f"core {numbers[0]}: CurrentEL {numbers[1]:#x}, DAIF {numbers[2]:#x}, SCTLR {numbers[3]:#x}"
         life.remarks.append(Remark("fault", "the state in which a core enters", text))

@@ -20,7 +20,7 @@ SAME, COMMAND, READ, DIFFERS, LEFT = 0, 2, 4, 6, 7
 TEXT = """Runs a range of seeds, on all processors of this machine or on many machines.
 The same command continues an interrupted sweep: finished seeds are kept in its folder.
 
-  ./psci sweep storm   --seeds 1..100000 --out out/night --boards tests/tally-floors.txt
+  ./psci sweep storm   --seeds 1..100000 --out out/night --boards tests/program/tally-floors.txt
   ./psci sweep threads --seeds 1..10000 --out out/threads --model
   ./psci sweep lists   --seeds 1..10000 --out out/boots --on qemu --profile hosts/payload/profiles/qemu
   ./psci sweep fuzz    --seeds 1..1000 --out out/fuzz --target out/beside/tfa --corpus corpus

@@ -22,7 +22,8 @@ RULES = {
     "Finishes": Rule("(r : Record) × ((p.row c).begun ≡ Some r)", "begun", "begun", "idle sent"),
     "Stands": Rule("(stage_at p c ≡ Leaving) × LacksLock p c", "leaving free", "leaving", "standing"),
     "Delivers": Rule("IsSendable b m × (waits b p.values (words p) (asked.Deliver m) ≡ false) × "
-                     "(m.kind ≡ kinds.Start → LacksLock p m.core.number)", "sent standing", "sent", "down answered"),
+                     "(touches b p.values m ≡ true → m.kind ≡ kinds.Start → LacksLock p m.core.number)",
+                     "sent standing", "sent", "down answered"),
     "Cuts": Rule("(0 < p.values.depth level place) × NoneArmed b p level place", "down", "", ""),
     "Wakes": Rule("(c < cores b) × (stands p.values (words p) c ≡ true) × LacksLock p c",
                   "standing free", "down", "started"),
