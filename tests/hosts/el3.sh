@@ -140,7 +140,7 @@ el3_faults() {
     for file in hosts/el3/faults/*.patch; do
         rm -rf "$copy"
         cp -r hosts/el3 "$copy"
-        if patch -s -d "$copy" -p1 < "$file" && ! diff -rq hosts/el3 "$copy" > "$work/out" &&
+        if patch -s -F0 -d "$copy" -p1 < "$file" && ! diff -rq hosts/el3 "$copy" > "$work/out" &&
             compiles "$copy"; then pass; else fail "$file"; fi
     done
 }
@@ -288,7 +288,7 @@ live_slow() {
 # a processor with SVE, which EL3 does not let through: its first use is told, once, and Linux goes no further
 live_shut() {
     say "Linux at EL3: the fault shut-features"
-    if EL3_OUT=$work/el3-shut hosts/el3/run --cpu max --seconds $((30 + 2 * took)) --fault shut-features > "$work/out" 2>&1; then
+    if EL3_OUT=$work/el3-shut hosts/el3/run --cpu max --seconds "$patience" --fault shut-features > "$work/out" 2>&1; then
         fail "hosts/el3/run --cpu max --fault shut-features ends well"
     elif [ "$(grep -c "exception 8, esr 0x66000000" "$work/out")" = 1 ]; then pass; else
         fail "hosts/el3/run --cpu max --fault shut-features does not tell one exception"

@@ -19,7 +19,7 @@ kvm_faults() {
     for file in hosts/kvm/faults/*.patch; do
         rm -rf "$copy"
         cp -r hosts/kvm "$copy"
-        if patch -s -d "$copy" -p1 < "$file" && grep -qF "\`$(basename "$file" .patch)\`" hosts/kvm/README.md
+        if patch -s -F0 -d "$copy" -p1 < "$file" && grep -qF "\`$(basename "$file" .patch)\`" hosts/kvm/README.md
         then pass; else fail "$file"; fi
     done
 }
