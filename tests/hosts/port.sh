@@ -194,8 +194,8 @@ port_lists() {
     while IFS='|' read -r name check _ text; do
         [ "$check" = lists ] || continue
         say "lists at EL3: the fault $name"
-        # a hang gets more time than the port took without a fault; an exception ends a run
-        if [ "$text" = "did not end" ]; then most=$((60 + 4 * took)); else most=$patience; fi
+        # a hang gets more time than the port took; an exception ends a run
+        if [ "$text" = "did not end" ]; then most=$((30 + 2 * took)); else most=$patience; fi
         if listed "$name" "$most"; then fail "$name is not seen by lists"
         elif grep -q -- "$text" "$work/out"; then pass; else
             fail "$name is seen by lists, which do not say '$text'"
