@@ -162,13 +162,27 @@ el3_says() {
     fi
 }
 
-# what is missing, and what there is not
+# what is missing, and what there is not; when a key is pressed, and a run ended
 el3_words() {
     local tool
     mkdir -p "$work/few"
     for tool in bash dirname env; do ln -sf "$(command -v $tool)" "$work/few/$tool"; done
     el3_says "run: missing qemu-system-aarch64 aarch64-linux-gnu-gcc make dtc python3 apt-get" each
     el3_says "run: unknown option --fast; see --help" --fast
+    has_python "hosts/el3/press" || return
+    if tests/hosts/pressed > "$work/out" 2>&1; then pass; else fail tests/hosts/pressed; cat "$work/out"; fi
+    misses_press 's/ALIKE = 1, 3/ALIKE = 1, 2/'
+    misses_press 's/ if levels == .* else \[\]$//'
+    misses_press 's/ if at in self.looks else \[\]//'
+    misses_press 's/self.rest + self.file/self.file/'
+}
+
+# misses_press EDIT: what is pressed by hosts/el3/press that is changed so is told
+misses_press() {
+    sed "$1" hosts/el3/press > "$work/press"
+    if cmp -s hosts/el3/press "$work/press" || tests/hosts/pressed "$work/press" > "$work/out" 2>&1; then
+        fail "tests/hosts/pressed lets this through: $1"
+    else pass; fi
 }
 
 # can_boot: whether there is what a machine at EL3 wants: tools, a built archive, and what was downloaded before
