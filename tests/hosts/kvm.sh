@@ -12,7 +12,8 @@ kvm_records() {
     done
 }
 
-# each fault still fits the monitor's sources, and the list says who tells it, as the page does; the list has no other
+# each fault still fits the monitor's sources, and the list says who tells it, as the page does; the list has no other.
+# What any monitor links is as small as the page says
 kvm_faults() {
     local file name teller copy=$work/kvm
     command -v patch > /dev/null || { skip "faults of hosts/kvm" patch; return; }
@@ -27,6 +28,8 @@ kvm_faults() {
     while IFS='|' read -r name _; do
         if [ -e "hosts/kvm/faults/$name.patch" ]; then pass; else fail "hosts/kvm/faults has no $name"; fi
     done < <(grep -v '^#' tests/hosts/kvm-faults.txt)
+    if [ "$(cat hosts/kvm/{cores,vcpu,record}.c hosts/kvm/vmm.h | wc -l)" -le 450 ]; then pass; else fail "the lines of hosts/kvm"; fi
+    if [ "$(cat hosts/kvm/kvmtool/{psci.c,kvmtool.patch} | wc -l)" = 235 ]; then pass; else fail "the lines of hosts/kvm/kvmtool"; fi
 }
 
 # guest_of WORD..: what hosts/kvm/run ends with
@@ -52,6 +55,7 @@ lists_agree() {
 # linux_agrees WORD..: a record of Linux, which does this, is compared
 linux_agrees() {
     guest_of --seconds "$patience" --record "$work/linux.record" "$@" || fail "hosts/kvm/run $*: $(tail -n 1 "$work/out")"
+    ! grep "did not" "$work/out" || fail "hosts/kvm/run $*: Linux did not what it was to do"
     compared 0 "are answered as by the proved program" "$work/linux.record"
 }
 
@@ -65,11 +69,12 @@ kvm_kvmtool() {
 
 # lists that are judged, whose ports are compared; Linux; and one of the planted faults, another with each commit
 kvm_live() {
-    local faults fault took begun=$SECONDS
+    local faults fault took words=(each idle suspend-5) begun=$SECONDS
     local lists=(affinity down-01 lives mode off on-race on-twice refusals standby storm-1 storm-down-1 system-suspend)
     can_boot && [ -e "$cache/trixie/packages/bin/busybox" ] || { skip "guests of KVM" "$cache/trixie"; return; }
     lists_agree ours-on-kvm -- "${lists[@]}"
-    linux_agrees each idle suspend-5
+    if [ -e "$cache/trixie/kexec/fetched" ]; then words+=(kexec each); else skip "kexec of a guest of KVM" "$cache/trixie/kexec"; fi
+    linux_agrees "${words[@]}"
     # a fault may hang, and gets more time than all of this took without one
     took=$((SECONDS - begun))
     mapfile -t faults < <(grep -v '^#' tests/hosts/kvm-faults.txt)
