@@ -1,5 +1,5 @@
-# The library as the PSCI of KVM's guests (hosts/kvm), sourced by ./test after tests/hosts/judge.sh: stored records of Linux,
-# and guests on QEMU where it, the kernels and the archive are here.
+# The library as the PSCI of KVM's guests (hosts/kvm), sourced by ./test after tests/hosts/judge.sh: stored records of
+# Linux, and guests on QEMU where it, the kernels and the archive are here.
 
 # each stored record of a Linux guest, asked again
 kvm_records() {
@@ -28,8 +28,9 @@ kvm_faults() {
     while IFS='|' read -r name _; do
         if [ -e "hosts/kvm/faults/$name.patch" ]; then pass; else fail "hosts/kvm/faults has no $name"; fi
     done < <(grep -v '^#' tests/hosts/kvm-faults.txt)
-    if [ "$(cat hosts/kvm/{cores,vcpu,record}.c hosts/kvm/vmm.h | wc -l)" -le 450 ]; then pass; else fail "the lines of hosts/kvm"; fi
-    if [ "$(cat hosts/kvm/kvmtool/{psci.c,kvmtool.patch} | wc -l)" = 235 ]; then pass; else fail "the lines of hosts/kvm/kvmtool"; fi
+    if [ "$(cat hosts/kvm/{cores,vcpu,record}.c hosts/kvm/vmm.h | wc -l)" -le 450 ] &&
+        [ "$(cat hosts/kvm/kvmtool/{psci.c,kvmtool.patch} | wc -l)" = 235 ]
+    then pass; else fail "the lines of hosts/kvm"; fi
 }
 
 # guest_of WORD..: what hosts/kvm/run ends with
@@ -54,7 +55,8 @@ lists_agree() {
 
 # linux_agrees WORD..: a record of Linux, which does this, is compared
 linux_agrees() {
-    guest_of --seconds "$patience" --record "$work/linux.record" "$@" || fail "hosts/kvm/run $*: $(tail -n 1 "$work/out")"
+    guest_of --seconds "$patience" --record "$work/linux.record" "$@" ||
+        fail "hosts/kvm/run $*: $(tail -n 1 "$work/out")"
     ! grep "did not" "$work/out" || fail "hosts/kvm/run $*: Linux did not what it was to do"
     compared 0 "are answered as by the proved program" "$work/linux.record"
 }
@@ -73,7 +75,9 @@ kvm_live() {
     local lists=(affinity down-01 lives mode off on-race on-twice refusals standby storm-1 storm-down-1 system-suspend)
     can_boot && [ -e "$cache/trixie/packages/bin/busybox" ] || { skip "guests of KVM" "$cache/trixie"; return; }
     lists_agree ours-on-kvm -- "${lists[@]}"
-    if [ -e "$cache/trixie/kexec/fetched" ]; then words+=(kexec each); else skip "kexec of a guest of KVM" "$cache/trixie/kexec"; fi
+    if [ -e "$cache/trixie/kexec/fetched" ]; then words+=(kexec each); else
+        skip "kexec of a guest of KVM" "$cache/trixie/kexec"
+    fi
     linux_agrees "${words[@]}"
     # a fault may hang, and gets more time than all of this took without one
     took=$((SECONDS - begun))
