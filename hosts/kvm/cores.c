@@ -7,7 +7,6 @@
 #include <stdio.h>
 #include <stdlib.h>
 #include <string.h>
-#include <sys/ioctl.h>
 
 enum { PSCI_FEATURES = 0x8400000a };
 static const uint32_t SMCCC_VERSION = 0x80000000;
@@ -43,8 +42,6 @@ static void open_door(const struct psci_ctl_start *start) {
  * before it makes another call. */
 static void end_life(const struct psci_ctl_answer *answer) {
     life = answer->what == PSCI_CTL_OFF ? IS_OFF : RESTARTS;
-    if (life == RESTARTS)
-        cores[0].start = answer->start;
     for (struct core *core = cores; core < cores + many_cores; core++)
         call_back(core);
 }
@@ -52,7 +49,7 @@ static void end_life(const struct psci_ctl_answer *answer) {
 /* What the controller decides takes place at once. */
 static void obey(const struct psci_ctl_answer *answer) {
     look("a message", answer->what, PSCI_CTL_NO_PLACE - 1);
-    if (answer->what == PSCI_CTL_START)
+    if (answer->what == PSCI_CTL_START || answer->what == PSCI_CTL_RESTART)
         open_door(&answer->start);
     if (answer->what == PSCI_CTL_OFF || answer->what == PSCI_CTL_RESTART)
         end_life(answer);
@@ -114,11 +111,11 @@ static bool ask_firmware(struct core *core, const uint64_t *x, struct psci_answe
     if (is_made) {
         psci_smc(&firmware, number_of(core), x[0], x[1], x[2], x[3], answer);
         look("a call", answer->what, PSCI_RESUME);
-        if (answer->what == PSCI_STOP)
-            psci_stop(&firmware, number_of(core), x[0], &core->how);
         record_call(core, x, answer);
-        if (answer->what == PSCI_STOP)
+        if (answer->what == PSCI_STOP) {
+            psci_stop(&firmware, number_of(core), x[0], &core->how);
             stand(core);
+        }
         deliver(&answer->message);
     }
     pthread_mutex_unlock(&lock);

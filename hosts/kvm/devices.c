@@ -35,8 +35,7 @@ static void ring_alarm(void) {
         alarm_clock.match = 0;
     }
     uint32_t level = alarm_clock.pending & alarm_clock.mask;
-    struct kvm_irq_level it = {.level = level};
-    it.irq = KVM_ARM_IRQ_TYPE_SPI << KVM_ARM_IRQ_TYPE_SHIFT | (32 + CLOCK_LINE);
+    struct kvm_irq_level it = {{KVM_ARM_IRQ_TYPE_SPI << KVM_ARM_IRQ_TYPE_SHIFT | (32 + CLOCK_LINE)}, level};
     if (level != was)
         ask(machine, KVM_IRQ_LINE, &it, "an interrupt");
     was = level;

@@ -2,21 +2,14 @@
 #include "vmm.h"
 
 #include <inttypes.h>
-#include <stdarg.h>
 #include <stdio.h>
 
+#define say(...) fprintf(record, __VA_ARGS__)
 static FILE *record;
 
-static void say(const char *form, ...) {
-    va_list list;
-    va_start(list, form);
-    if (record)
-        vfprintf(record, form, list);
-    va_end(list);
-}
-
-static void say_frame(const struct psci_frame *frame) {
+static void say_frame(const char *before, const struct psci_frame *frame) {
     unsigned many = PSCI_FRAME_LEN;
+    say("%s", before);
     while (many && !frame->bytes[many - 1])
         many--;
     for (unsigned k = 0; k < many; k++)
@@ -31,10 +24,8 @@ static void say_answer(const struct psci_answer *answer) {
     case PSCI_RESUME: say("resume"); break;
     default: say("refused %" PRIu32, answer->what);
     }
-    if (answer->message.some) {
-        say(" ");
-        say_frame(&answer->message);
-    }
+    if (answer->message.some)
+        say_frame(" ", &answer->message);
     say("\n");
 }
 
@@ -42,7 +33,7 @@ static void say_reply(const struct psci_ctl_answer *answer) {
     if (answer->what >= PSCI_CTL_NO_PLACE)
         say("refused %" PRIu32, answer->what);
     else if (answer->ack.some)
-        say_frame(&answer->ack);
+        say_frame("", &answer->ack);
     else if (answer->what == PSCI_CTL_START)
         say("started %" PRIu32, answer->start.number);
     else
@@ -51,8 +42,6 @@ static void say_reply(const struct psci_ctl_answer *answer) {
 }
 
 void record_into(const char *name, const char *board) {
-    if (!name)
-        return;
     record = fopen(name, "w");
     if (!record)
         fail(name);
@@ -79,8 +68,7 @@ void record_enter(const struct core *core, const struct psci_answer *answer) {
 void record_stands(const struct core *core) { say("stands 0x%" PRIx64 " %" PRIu32 "\n", core->mpidr, core->start.number); }
 
 void record_deliver(const struct psci_frame *message, const struct psci_ctl_answer *answer) {
-    say("deliver ");
-    say_frame(message);
+    say_frame("deliver ", message);
     say(" -> ");
     say_reply(answer);
 }
@@ -91,8 +79,7 @@ void record_wake(const struct core *core, const struct psci_ctl_answer *answer) 
 }
 
 void record_take(const struct psci_frame *ack, uint32_t what) {
-    say("take ");
-    say_frame(ack);
+    say_frame("take ", ack);
     say(what > PSCI_OLD ? " -> refused %u\n" : what == PSCI_OLD ? " -> old\n" : " -> used\n", what);
 }
 

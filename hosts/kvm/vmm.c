@@ -101,19 +101,17 @@ static void start_cores(void) {
 }
 
 int main(int many, char **words) {
-    const char *board = "(2 2) exec 0x40000000-0x50000000 boot 0x40200000 starts 4294967295 lives 65535", *record = 0;
+    const char *board = "(2 2) exec 0x40000000-0x50000000 boot 0x40200000 starts 4294967295 lives 65535";
+    const char *record = "/dev/null";
     bool has_ring = true;
     struct sigaction action = {.sa_handler = nothing};
-    for (int letter; (letter = getopt(many, words, "b:r:l")) != -1;) {
-        if (letter == 'b')
-            board = optarg;
-        else if (letter == 'r')
-            record = optarg;
-        else if (letter == 'l')
-            has_ring = false;
-        else
-            return 2;
-    }
+    for (int letter; (letter = getopt(many, words, "b:r:l")) != -1;)
+        switch (letter) {
+        case 'b': board = optarg; break;
+        case 'r': record = optarg; break;
+        case 'l': has_ring = false; break;
+        default: return 2;
+        }
     if (many - optind < 2)
         return 2;
     image = words[optind];

@@ -1,5 +1,5 @@
-# The library as the PSCI of KVM's guests (hosts/kvm), sourced by ./test after tests/hosts/judge.sh: stored records of Linux,
-# and guests on QEMU where it, the kernels and the archive are here.
+# The library as the PSCI of KVM's guests (hosts/kvm), sourced by ./test after tests/hosts/judge.sh: stored records of
+# Linux, and guests on QEMU where it, the kernels and the archive are here.
 
 # each stored record of a Linux guest, asked again
 kvm_records() {
@@ -12,16 +12,25 @@ kvm_records() {
     done
 }
 
-# each fault still fits the monitor's sources, and its page has it
+# each fault still fits the monitor's sources, and the list says who tells it, as the page does; the list has no other.
+# What any monitor links is as small as the page says
 kvm_faults() {
-    local file copy=$work/kvm
+    local file name teller copy=$work/kvm
     command -v patch > /dev/null || { skip "faults of hosts/kvm" patch; return; }
     for file in hosts/kvm/faults/*.patch; do
+        name=$(basename "$file" .patch)
+        teller=$(sed -n "s/^$name|\([^|]*\)|.*/\1/p" tests/hosts/kvm-faults.txt)
         rm -rf "$copy"
         cp -r hosts/kvm "$copy"
-        if patch -s -F0 -d "$copy" -p1 < "$file" && grep -qF "\`$(basename "$file" .patch)\`" hosts/kvm/README.md
+        if patch -s -F0 -d "$copy" -p1 < "$file" && grep -q "^| \`$name\`: .* | .*${teller:-nobody}" hosts/kvm/README.md
         then pass; else fail "$file"; fi
     done
+    while IFS='|' read -r name _; do
+        if [ -e "hosts/kvm/faults/$name.patch" ]; then pass; else fail "hosts/kvm/faults has no $name"; fi
+    done < <(grep -v '^#' tests/hosts/kvm-faults.txt)
+    if [ "$(cat hosts/kvm/{cores,vcpu,record}.c hosts/kvm/vmm.h | wc -l)" -le 450 ] &&
+        [ "$(cat hosts/kvm/kvmtool/{psci.c,kvmtool.patch} | wc -l)" = 235 ]
+    then pass; else fail "the lines of hosts/kvm"; fi
 }
 
 # guest_of WORD..: what hosts/kvm/run ends with
@@ -46,7 +55,9 @@ lists_agree() {
 
 # linux_agrees WORD..: a record of Linux, which does this, is compared
 linux_agrees() {
-    guest_of --seconds "$patience" --record "$work/linux.record" "$@" || fail "hosts/kvm/run $*: $(tail -n 1 "$work/out")"
+    guest_of --seconds "$patience" --record "$work/linux.record" "$@" ||
+        fail "hosts/kvm/run $*: $(tail -n 1 "$work/out")"
+    ! grep "did not" "$work/out" || fail "hosts/kvm/run $*: Linux did not what it was to do"
     compared 0 "are answered as by the proved program" "$work/linux.record"
 }
 
@@ -60,29 +71,35 @@ kvm_kvmtool() {
 
 # lists that are judged, whose ports are compared; Linux; and one of the planted faults, another with each commit
 kvm_live() {
-    local faults fault played text took begun=$SECONDS
+    local faults fault took words=(each idle suspend-5) begun=$SECONDS
     local lists=(affinity down-01 lives mode off on-race on-twice refusals standby storm-1 storm-down-1 system-suspend)
     can_boot && [ -e "$cache/trixie/packages/bin/busybox" ] || { skip "guests of KVM" "$cache/trixie"; return; }
     lists_agree ours-on-kvm -- "${lists[@]}"
-    # a fault may hang, and gets more time than all lists took without one
+    if [ -e "$cache/trixie/kexec/fetched" ]; then words+=(kexec each); else
+        skip "kexec of a guest of KVM" "$cache/trixie/kexec"
+    fi
+    linux_agrees "${words[@]}"
+    # a fault may hang, and gets more time than all of this took without one
     took=$((SECONDS - begun))
-    linux_agrees each idle suspend-5
-    mapfile -t faults < tests/hosts/kvm-faults.txt
-    IFS='|' read -r fault played text <<< "${faults[$(git rev-list --count HEAD 2> /dev/null || echo 0) % ${#faults[@]}]}"
-    kvm_fault "$fault" "$played" "$text"
+    mapfile -t faults < <(grep -v '^#' tests/hosts/kvm-faults.txt)
+    IFS='|' read -ra fault <<< "${faults[$(git rev-list --count HEAD 2> /dev/null || echo 0) % ${#faults[@]}]}"
+    kvm_fault "${fault[@]}"
 }
 
-# kvm_fault NAME LISTS TEXT: what the monitor, compare or the judge says of lists that are played with this fault
+# kvm_fault NAME TELLER PLAYED TEXT: what the teller says, where this fault is planted
 kvm_fault() {
-    local port lists
-    read -ra lists <<< "$2"
+    local port played
+    read -ra played <<< "$3"
     rm -rf "$work/faulty"
-    guest_of --seconds $((40 + took)) --fault "$1" --lists "$work/faulty" "${lists[@]}" || true
-    cp "$work/out" "$work/told"
-    ./psci compare --limit "$patience" --profile "$payload/profiles/ours-on-kvm" "$work"/faulty/*.record >> "$work/told" 2>&1
-    for port in "$work"/faulty/*.port; do ./psci compare --quick "$port" >> "$work/told" 2>&1; done
-    if grep -q -- "$3" "$work/told"; then pass; else
-        fail "hosts/kvm/run --fault $1 --lists .. $2: nobody says '$3'"
+    [ "$2" = Linux ] || played=(--lists "$work/faulty" "${played[@]}")
+    guest_of --seconds $((40 + took)) --fault "$1" "${played[@]}" || true
+    case $2 in
+        compare) for port in "$work"/faulty/*.port; do ./psci compare --quick "$port"; done ;;
+        judge) ./psci compare --limit "$patience" --profile "$payload/profiles/ours-on-kvm" "$work"/faulty/*.record ;;
+        *) cat "$work/out" ;;
+    esac > "$work/told" 2>&1
+    if grep -q -- "$4" "$work/told"; then pass; else
+        fail "hosts/kvm/run --fault $1 .. $3: $2 does not say '$4'"
         tail -n 5 "$work/told"
     fi
 }

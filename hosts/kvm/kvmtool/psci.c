@@ -39,7 +39,7 @@ unsigned long psci__vcpu_number(unsigned long cpu) { return vcpu_number(&cores[c
 void psci__adopt(struct kvm_cpu *cpu) { adopt(core_of(cpu), cpu->vcpu_fd, cpu->kvm_run); }
 
 static int psci__record(struct kvm *kvm) {
-    record_into(kvm->cfg.arch.psci_record, kvm->cfg.arch.psci_board);
+    record_into(kvm->cfg.arch.psci_record ?: "/dev/null", kvm->cfg.arch.psci_board);
     return 0;
 }
 late_init(psci__record);
