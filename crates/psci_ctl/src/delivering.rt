@@ -105,6 +105,7 @@ impl Controller {
 
     /// Whether every child of this domain is at least as deep as the part asks.
     fn is_covered(&self, node: Node, part: &Part) -> bool
+        requires { HasNode self.now.board node }
         ensures { result ≡ is_covered self.now.board (seen self.now).depth node part.now.depth }
     {
         is_covered(&self.domains, &self.board, node, part.depth)
