@@ -1,14 +1,14 @@
 -- A child's domain in memory keeps the number of active cores that the tree has below its node.
-use Rattle.psci_tree.proofs.Words.{◌+◌, ◌-◌, ◌<◌, ◌∙◌, ◌≡◌, ap, arith, branches, Domain, domains_down}
-use Rattle.psci_tree.proofs.Words.{get_or, get_or_default, HasNodeIn, HasShape, IsRecount, IsTied, IsTree}
-use Rattle.psci_tree.proofs.Words.{Keeps, leaves, length, List, Node, out-Domain, subst, sym, TreeValue, ℕ}
+use Rattle.psci_tree.proofs.Words.{◌-◌, ◌<◌, ◌∙◌, ◌≡◌, ap, arith, branches, Domain}
+use Rattle.psci_tree.proofs.Words.{domains_down, get_or, get_or_default, HasNodeIn, HasShape}
+use Rattle.psci_tree.proofs.Words.{IsRecount, IsTied, IsTree, Keeps, leaves, length, List, Node}
+use Rattle.psci_tree.proofs.Words.{out-Domain, subst, sym, TreeValue, ℕ}
 use Rattle.psci_tree.proofs.PathStands.{active_is, states}
 use Rattle.psci_tree.proofs.Slices.{states_at, size_at}
 use Rattle.psci_tree.proofs.Upward.{StepsDown, steps_down}
 use Rattle.psci_tree.specs.Below.{IsBelow, IsOfNode}
 use Rattle.psci_board.specs.Board.{BoardValue}
 use Rattle.psci_board.specs.Laws.{SpanLaws}
-use Rattle.psci_tree.specs.Recount.{active}
 use Rattle.psci_tree.proofs.tree.Tree.below.Goals as goal
 
 -- the domain of a child, among those of a domain that has it
@@ -26,10 +26,14 @@ of_node root t b n m k own laws tied same at is =
     is own ∙ ap (λ l. get_or (domains_down (l - n.level) root) n.place own) (sym long) in
     let k_down : ℕ = length levels - m.level in
     let fits : m.place < length (domains_down k_down root) =
-    omega (arith, at.node.place, size_at root levels m.level k_down tied.whole
-    (omega (arith, at.node.level))) in
+    omega (
+      arith,
+      at.node.place,
+      size_at root levels m.level k_down tied.whole
+          (omega (arith, at.node.level)),
+    ) in
     let child : (d : Domain)
-        → get_or (branches own) k d ≡ get_or (domains_down k_down root) m.place d =
+    → get_or (branches own) k d ≡ get_or (domains_down k_down root) m.place d =
     λ d. ap (λ (o : Domain). get_or (branches o) k d) own_is ∙ step.is d own
     ∙ ap (λ l. get_or (domains_down (l - m.level) root) m.place d) long in
     record {
