@@ -7,7 +7,7 @@ use Rattle.std.specs.List.{list_any, list_all, count_by, range_with_len}
 use Rattle.psci_abi.specs.declared.format.Format.{Format}
 use Rattle.psci_abi.specs.declared.format.Format.TheVariants.{Original, Extended}
 use Rattle.psci_board.specs.Board.{BoardValue, cores, height}
-use Rattle.psci_state.specs.Ask.{is_ask, deepest_of, power_down}
+use Rattle.psci_state.specs.Ask.{is_ask, deepest_of, power_down, running}
 use Rattle.psci_platform.specs.declared.class.TheConstants.{STATES}
 use Rattle.psci_platform.specs.Cores.{boot_place}
 use Rattle.psci_platform.specs.Described.{DescriptionValue}
@@ -46,7 +46,7 @@ never_falls d level =
 -- state 0 of a level is running, and no class is shallower than that of the number before
 abbrev pub rises : DescriptionValue → ℕ → Bool
 rises d level =
-    depth_at d level 0 == 0 && never_falls d level
+    depth_at d level 0 == running && never_falls d level
 
 -- above these levels nothing is asked
 abbrev pub is_running_above : ℕ → List ℕ → Bool

@@ -7,7 +7,7 @@ use Rattle.std.specs.List.{list_any}
 use Rattle.psci_abi.specs.declared.format.Format.{Format}
 use Rattle.psci_fw_spec.specs.declared.mode.SuspendMode.{SuspendMode}
 use Rattle.psci_fw_spec.specs.declared.mode.SuspendMode.TheVariants.{Platform, OsInitiated}
-use Rattle.psci_state.specs.Ask.{is_ask}
+use Rattle.psci_state.specs.Ask.{is_ask, power_down, retention, running, standby}
 use Rattle.psci_state.specs.PowerState.{word_of}
 use Rattle.psci_platform.specs.declared.class.Class.{Class}
 use Rattle.psci_platform.specs.declared.class.Class.TheVariants.{Running, Standby, Retention}
@@ -18,10 +18,10 @@ use Rattle.psci_platform.specs.declared.row.Row.{Row}
 
 -- the depth that stands for a class in an ask
 abbrev pub depth_of : Class → ℕ
-depth_of Running = 0
-depth_of Standby = 1
-depth_of Retention = 2
-depth_of PowerDown = 3
+depth_of Running = running
+depth_of Standby = standby
+depth_of Retention = retention
+depth_of PowerDown = power_down
 
 -- the depth of the state of this level and number; a number that no state has is as power-down
 abbrev pub depth_at : DescriptionValue → ℕ → ℕ → ℕ

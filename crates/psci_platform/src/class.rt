@@ -3,6 +3,8 @@
 ghost use Rattle.std.specs.Prelude.{◌≡◌};
 ghost use Rattle.psci_platform.specs.States.{depth_of};
 
+use psci_state::POWER_DOWN;
+
 /// How many levels a vector of states has: the core's, 0, and three above it.
 pub const LEVELS: usize = 4;
 
@@ -31,7 +33,7 @@ impl Class {
             Class::Running => 0,
             Class::Standby => 1,
             Class::Retention => 2,
-            Class::PowerDown => 3,
+            Class::PowerDown => POWER_DOWN,
         }
     }
 }

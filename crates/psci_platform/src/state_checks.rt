@@ -12,10 +12,7 @@ use crate::row::Row;
 use crate::rows::{has_bits, state_type};
 use crate::states::ask_of;
 use psci_board::Format;
-use psci_state::Ask;
-
-/// The deepest depth, power-down.
-const POWER_DOWN: u8 = 3;
+use psci_state::{Ask, POWER_DOWN};
 
 /// The greatest number of a state.
 const LAST_STATE: u8 = STATES as u8 - 1;

@@ -2,7 +2,7 @@
 
 ghost use Rattle.std.specs.Prelude.{◌≡◌, ◌≤◌, ◌<◌, ◌^◌, None, Some, ℕ, slice_index, if◌then◌else◌};
 ghost use Rattle.std.specs.Prelude.{find, option_map};
-ghost use Rattle.psci_state.specs.Ask.{is_ask};
+ghost use Rattle.psci_state.specs.Ask.{is_ask, power_down};
 ghost use Rattle.psci_state.specs.PowerState.{id_of, word_of};
 ghost use Rattle.psci_abi.specs.declared.format.Format.TheVariants.{Extended};
 ghost use Rattle.psci_platform.specs.States.{can_ask, depth_at, depths_of, is_deeper, reads};
@@ -12,15 +12,12 @@ ghost use Rattle.psci_platform.specs.States.{states_of, word_asking, word_for};
 use crate::class::{Class, LEVELS};
 use crate::description::Description;
 use crate::row::Row;
-use psci_board::Format;
+use psci_board::{Format, MOST_LEVELS};
 use psci_fw_spec::SuspendMode;
-use psci_state::{Ask, law_power_states};
+use psci_state::{Ask, POWER_DOWN, law_power_states};
 
 /// A word that is no power state in either format.
 pub const NO_STATE: u32 = 0xFFFF_FFFF;
-
-/// The deepest depth, power-down.
-const POWER_DOWN: u8 = 3;
 
 /// StateType in the extended format: power-down.
 const POWER_DOWN_TYPE: u32 = 0x4000_0000;
@@ -68,7 +65,7 @@ impl Description {
     /// The depth of a state of a level.
     pub fn depth(&self, level: usize, number: u8) -> u8
         ensures depth { result ≡ depth_at self.now level number }
-        ensures most { result ≤ 3 }
+        ensures most { result ≤ power_down }
     {
         match self.classes.levels.get(level) {
             Some(classes) => match classes.get(number as usize) {
@@ -82,7 +79,7 @@ impl Description {
     /// The depths of the states of all levels.
     pub fn depths_of(&self, states: &[u8; LEVELS]) -> [u8; LEVELS]
         ensures depths { result ≡ depths_of self.now states.now }
-        ensures most { (level : ℕ) → slice_index result level ≤ 3 }
+        ensures most { (level : ℕ) → slice_index result level ≤ power_down }
     {
         [
             self.depth(0, states[0]),
@@ -119,7 +116,7 @@ fn reads(word: u32, row: &Row) -> bool
 
 /// The word of the board that asks these depths.
 fn word_asking(depths: [u8; LEVELS], format: Format) -> u32
-    requires { (level : ℕ) → slice_index depths level ≤ 3 }
+    requires { (level : ℕ) → slice_index depths level ≤ power_down }
     ensures { result ≡ word_asking format depths }
 {
     match ask_of(depths) {
@@ -130,16 +127,16 @@ fn word_asking(depths: [u8; LEVELS], format: Format) -> u32
 
 /// The ask of these depths, if they are one.
 pub fn ask_of(depths: [u8; LEVELS]) -> Option<Ask>
-    requires { (level : ℕ) → slice_index depths level ≤ 3 }
+    requires { (level : ℕ) → slice_index depths level ≤ power_down }
     ensures { result ≡ (if is_ask depths then Some depths else None) }
 {
     law_power_states();
-    Ask::read(extended_word(depths), Format::Extended, 3).ok()
+    Ask::read(extended_word(depths), Format::Extended, MOST_LEVELS as u32).ok()
 }
 
 /// The word of the extended format with these depths.
 fn extended_word(depths: [u8; LEVELS]) -> u32
-    requires { (level : ℕ) → slice_index depths level ≤ 3 }
+    requires { (level : ℕ) → slice_index depths level ≤ power_down }
     ensures { result ≡ word_of Extended depths }
 {
     let id = state_id(depths);
@@ -152,7 +149,7 @@ fn extended_word(depths: [u8; LEVELS]) -> u32
 
 /// The state id of these depths: four bits for each level.
 fn state_id(depths: [u8; LEVELS]) -> u32
-    requires { (level : ℕ) → slice_index depths level ≤ 3 }
+    requires { (level : ℕ) → slice_index depths level ≤ power_down }
     ensures id { result ≡ id_of depths }
     ensures small { result < 2 ^ 16 }
 {
