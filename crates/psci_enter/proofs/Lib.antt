@@ -1,0 +1,8 @@
+pub mod Values
+pub mod Steps
+pub mod Asking
+pub mod Standing
+pub mod Others
+pub mod Keeping
+mod OrderRows
+mod SideRows
