@@ -1,5 +1,7 @@
 pub mod Values
 pub mod Steps
+pub mod Replying
+pub mod Ending
 pub mod Asking
 pub mod Standing
 pub mod Others

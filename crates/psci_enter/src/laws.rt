@@ -1,7 +1,8 @@
 //! What the firmware's side of a port keeps: each law is the contract of a function that does
 //! nothing.
 
-ghost use Rattle.std.specs.Prelude.{◌≡◌, ◌<◌, ◌⊎◌, ℕ, Bool, ◌∷◌, false, length, List, None, Some, true};
+ghost use Rattle.std.specs.Prelude.{◌≡◌, ◌<◌, ◌⊎◌, ℕ, Bool, ◌∷◌, false, length, List, None};
+ghost use Rattle.std.specs.Prelude.{Some, true};
 ghost use Rattle.psci_abi.specs.Calls.{request_of};
 ghost use Rattle.psci_abi.specs.declared.registers.Regs.{Regs};
 ghost use Rattle.psci_board.specs.Board.{BoardValue, IsBoard, cores};
@@ -9,16 +10,16 @@ ghost use Rattle.psci_board.specs.declared.node.Core.{Core};
 ghost use Rattle.psci_ctl_spec.specs.Effects.{effect_of};
 ghost use Rattle.psci_ctl_spec.specs.Replies.{last_start, reply};
 ghost use Rattle.psci_ctl_spec.specs.declared.call.CtlCall.TheVariants as asked;
-ghost use Rattle.psci_enter.specs.Again.{outstanding_in};
 ghost use Rattle.psci_enter.specs.Orders.{is_suspending};
 ghost use Rattle.psci_enter.specs.Side.{IsAsked, at, found, fresh, heard, looked, may_look};
 ghost use Rattle.psci_enter.specs.Side.{replied, reply_in};
-ghost use Rattle.psci_enter.specs.SideOf.{IsAnew, IsDoor, IsFirmwareOf, IsRightly, IsSideOf, core_of};
+ghost use Rattle.psci_enter.specs.SideOf.{IsAnew, IsDoor, IsFirmwareOf, IsRightly, IsSideOf};
+ghost use Rattle.psci_enter.specs.SideOf.{core_of};
 ghost use Rattle.psci_enter.specs.SideOf.{is_apart, is_end, is_quiet, is_started};
 ghost use Rattle.psci_enter.specs.declared.order.Look.TheVariants as look;
 ghost use Rattle.psci_enter.specs.declared.post.Door.{Door};
-ghost use Rattle.psci_enter.specs.declared.post.Post.TheVariants.{Armed, Entering, Leaving, Running};
-ghost use Rattle.psci_enter.specs.declared.post.Post.TheVariants.{Waiting, Woken};
+ghost use Rattle.psci_enter.specs.declared.post.Post.TheVariants.{Armed, Entering, Leaving};
+ghost use Rattle.psci_enter.specs.declared.post.Post.TheVariants.{Running, Waiting, Woken};
 ghost use Rattle.psci_enter.specs.declared.side.FirmwareSide.{FirmwareSide};
 ghost use Rattle.psci_fw.specs.Seen.{FirmwareValue, seen};
 ghost use Rattle.psci_fw_spec.specs.Lives.{start_of_life};
@@ -107,9 +108,9 @@ pub fn law_firmware()
     law_never_refused();
 }
 
-/// What a core's monitor does without the firmware keeps the rules of a port: it takes up each start
-/// at most once, and only its last one; it stands without the lock; and no wake-up is lost between
-/// its last look and its WFI.
+/// What a core's monitor does without the firmware keeps the rules of a port: it takes up each
+/// start at most once, and only its last one; it stands without the lock; and no wake-up is lost
+/// between its last look and its WFI.
 pub fn law_stands()
     ensures takes_up { (b : BoardValue) (acts : List Act) (s : FirmwareSide) (door : Door)
         (pending : Bool) → IsPortRun b acts → IsSideOf b s (state b acts)
@@ -163,8 +164,8 @@ pub fn law_stands()
         → IsRightly b acts (at Waiting s) (Turns (core_of s)) }
 {}
 
-/// What others do leaves a core's side as it is, or starts its core; and once a life ends, each side
-/// is a new one, and the firmware is kept or made anew.
+/// What others do leaves a core's side as it is, or starts its core; and once a life ends, each
+/// side is a new one, and the firmware is kept or made anew.
 pub fn law_others()
     ensures begins { (b : BoardValue) (before : List (List Record)) (core : Core)
         → core.number < cores b → IsSideOf b (fresh core) (cold b before) }

@@ -50,7 +50,8 @@ fn refused(fault: FwFault) -> Orders
 
 /// What a caller does next.
 fn called_next(cause: Cause, regs: Regs, act: Act, message: Option<&Message>) -> Next
-    ensures { result ≡ called_next cause regs (option_map (λ message. message.now) message.entry) act }
+    ensures { result
+        ≡ called_next cause regs (option_map (λ message. message.now) message.entry) act }
 {
     match act {
         Act::Return(code) => Next::Leave(regs.result(code)),

@@ -5,8 +5,9 @@ use Rattle.psci_port.proofs.Mirrors.{IsMirror}
 use Rattle.psci_port.proofs.Running.{run_kept}
 use Rattle.psci_port.proofs.Truth.{run_world}
 use Rattle.psci_enter.specs.SideOf.{core_of}
-use Rattle.psci_enter.proofs.Asking.{call_passes, called_done, calls_so, entered_done, enters_so}
-use Rattle.psci_enter.proofs.Asking.{entry_passes, lost_ack, taken_done, takes_so}
+use Rattle.psci_enter.proofs.Asking.{call_passes, calls_so, enters_so, entry_passes, lost_ack}
+use Rattle.psci_enter.proofs.Asking.{takes_so}
+use Rattle.psci_enter.proofs.Ending.{called_done, entered_done, taken_done}
 use Rattle.psci_enter.proofs.Steps.{firmware_after, rightly}
 use Rattle.psci_enter.proofs.laws.law_firmware.Goals as goal
 
