@@ -1,0 +1,54 @@
+-- What a core does by itself keeps the rules of the port.
+use Rattle.psci_enter.proofs.Standing.{armed_there, arms, free, rests, rests_armed, rises, rouses}
+use Rattle.psci_enter.proofs.Standing.{sleeps, stands, takes_up, turns, waits_there}
+use Rattle.psci_enter.proofs.Steps.{rightly}
+use Rattle.psci_port.specs.Port.{state}
+use Rattle.psci_port.proofs.Running.{run_kept}
+use Rattle.psci_enter.proofs.laws.law_stands.Goals as goal
+
+pub returns-clause-takes_up : goal.returns-clause-takes_up
+returns-clause-takes_up c = λ b acts s door pending run is reads free may finds.
+    let so = takes_up b (state b acts) s is (run_kept b acts run) door pending reads free may
+    finds in
+    (rightly b acts _ _ so.0.0 tt so.0.1, so.1.0, so.1.1.0, so.1.1.1)
+
+pub returns-clause-rests : goal.returns-clause-rests
+returns-clause-rests c = λ b acts s run is post.
+    rests b (state b acts) s is (run_kept b acts run) post
+
+pub returns-clause-armed : goal.returns-clause-armed
+returns-clause-armed c = λ b acts s run is post.
+    rests_armed b (state b acts) s is (run_kept b acts run) post
+
+pub returns-clause-free : goal.returns-clause-free
+returns-clause-free c = λ b acts s run is post.
+    free b (state b acts) s is (run_kept b acts run) post
+
+pub returns-clause-stands : goal.returns-clause-stands
+returns-clause-stands c = λ b acts s is post lacks.
+    let so = stands b (state b acts) s is post lacks in rightly b acts _ _ so.0 tt so.1
+
+pub returns-clause-arms : goal.returns-clause-arms
+returns-clause-arms c = λ b acts s is post none.
+    let so = arms b (state b acts) s is post none in rightly b acts _ _ so.0 tt so.1
+
+pub returns-clause-sleeps : goal.returns-clause-sleeps
+returns-clause-sleeps c = λ b acts s is post. (
+  λ there. waits_there b (state b acts) s is there,
+  λ there lacks.
+      let so = sleeps b (state b acts) s is there lacks in rightly b acts _ _ so.0 tt so.1,
+)
+
+pub returns-clause-rouses : goal.returns-clause-rouses
+returns-clause-rouses c = λ b acts s is post. (
+  λ there. armed_there b (state b acts) s is there,
+  λ there. let so = rouses b (state b acts) s is there in rightly b acts _ _ so.0 tt so.1,
+)
+
+pub returns-clause-rises : goal.returns-clause-rises
+returns-clause-rises c = λ b acts s is post there has.
+    let so = rises b (state b acts) s is there has in rightly b acts _ _ so.0 tt so.1
+
+pub returns-clause-turns : goal.returns-clause-turns
+returns-clause-turns c = λ b acts s is post lacks.
+    let so = turns b (state b acts) s is post lacks in rightly b acts _ _ so.0 tt so.1

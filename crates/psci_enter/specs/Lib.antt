@@ -1,0 +1,4 @@
+pub mod Orders
+pub mod Side
+pub mod SideOf
+pub mod Again
