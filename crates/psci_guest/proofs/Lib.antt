@@ -6,5 +6,6 @@ pub mod Asked
 pub mod Happened
 pub mod Over
 pub mod Turning
+pub mod Tied
 -- Worked examples.
 mod TurnRows

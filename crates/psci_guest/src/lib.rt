@@ -8,5 +8,7 @@
 #![tactic(auto)]
 
 mod laws;
+mod pair;
 
 pub use laws::law_turns;
+pub use pair::Pair;
