@@ -16,6 +16,7 @@ use Rattle.psci_ctl_spec.specs.Values as controlled
 use Rattle.psci_headline.proofs.Agreeing.{found_own}
 use Rattle.psci_headline.proofs.Standing.{settled_life, SettleLaws}
 use Rattle.psci_world_spec.specs.Histories.{sent}
+use Rattle.psci_guest.specs.Guest.{core_started, started_by}
 use Rattle.psci_guest.specs.Turns.{exchange, number_in}
 use Rattle.psci_guest.proofs.Landing.{AllEntered, AreHome, HasLanded, IsComing}
 use Rattle.psci_guest.proofs.Numbers.{numbered, same_listed}
@@ -139,38 +140,38 @@ module _ (b : BoardValue) (life : ℕ) (past : List Record) (event : Event) (law
       (down_landed b life next past m laws (is_sent m e) kind
       (ap (λ (u : Values). u.halting) found ∙ awake_in m e (ap is_system kind)))
 
-  one_life : AreHome b (exchange b past event) life → HasLanded b (exchange b past event)
+  one_life : AreHome b (exchange b past event) life → HasLanded b None (exchange b past event)
   one_life all = record {
     legal = all.legal;
     coming = λ l p. subst (IsComing b (exchange b past event))
         (same_Some life l (sym all.coming.present ∙ p)) all.coming;
-    one = 0;
-    others = λ x on ne. all.entered x on;
+    others = all.entered;
   }
 
   by_kind : (m : MessageValue) → spoken.sent asked.effect ≡ Some m → (k : Kind) → m.kind ≡ k
-      → HasLanded b (exchange b past event)
+      → HasLanded b (core_started m k) (exchange b past event)
   unfolding exchange
   by_kind m e kinds.Down kind =
       one_life (stays (Some m) e (λ n same.
       ap (λ (x : MessageValue). x.kind) (sym (same_Some m n same)) ∙ kind))
   by_kind m e kinds.Start kind =
-      subst (λ k. HasLanded b (serving b next k))
+      subst (λ k. HasLanded b (Some m.core.number) (serving b next k))
       (sym (number ∙ ap (option_map (λ m. length (sent past))) e))
       (start_landed b life next past m laws (is_sent m e) kind (awake_in m e (ap is_system kind)))
   by_kind m e kinds.Off kind =
-      subst (λ k. HasLanded b (serving b next k))
+      subst (λ k. HasLanded b (Some 0) (serving b next k))
       (sym (number ∙ ap (option_map (λ m. length (sent past))) e))
       (system_landed b life next past m laws (is_sent m e) (ap is_system kind))
   by_kind m e kinds.Reset kind =
-      subst (λ k. HasLanded b (serving b next k))
+      subst (λ k. HasLanded b (Some 0) (serving b next k))
       (sym (number ∙ ap (option_map (λ m. length (sent past))) e))
       (system_landed b life next past m laws (is_sent m e) (ap is_system kind))
 
   by_sent : (o : Option MessageValue) → spoken.sent asked.effect ≡ o
-      → HasLanded b (exchange b past event)
+      → HasLanded b (started_by o) (exchange b past event)
   by_sent None e = one_life (stays None e (λ m no. absurd (none-some m no)))
   by_sent (Some m) e = by_kind m e m.kind refl
 
-  pub asked_landed : HasLanded b (exchange b past event)
-  asked_landed = by_sent (spoken.sent asked.effect) refl
+  pub asked_landed : HasLanded b (started_by (sent_in (legal b past event)))
+      (exchange b past event)
+  asked_landed = by_sent (sent_in (legal b past event)) (sym said)

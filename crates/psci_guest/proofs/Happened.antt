@@ -16,9 +16,10 @@ use Rattle.psci_headline.proofs.Beginning.{arrives, HasEntered, HaveArrived, sam
 use Rattle.psci_headline.proofs.Moves.{FirmwareLaws, Moves, moves}
 use Rattle.psci_headline.proofs.Placing.{last_is}
 use Rattle.psci_headline.proofs.Standing.{SettleLaws}
-use Rattle.psci_world_spec.specs.Histories.{controller_history, firmware_history, sent}
+use Rattle.psci_world_spec.specs.Histories.{sent_in, controller_history, firmware_history, sent}
 use Rattle.psci_world_spec.specs.Legal.{legal}
 use Rattle.psci_world_spec.specs.Places.{place}
+use Rattle.psci_guest.specs.Guest.{started_by}
 use Rattle.psci_guest.specs.Turns.{exchange, number_in}
 use Rattle.psci_guest.proofs.Asked.{asked_landed, IsAsked, stays}
 use Rattle.psci_guest.proofs.Landing.{AllEntered, AreHome, AreIn, HasLanded, IsComing}
@@ -72,7 +73,7 @@ call_asked b life past c regs laws is coming entered =
 
 pub call_landed : (b : BoardValue) (life : ℕ) (past : List Record) (c : ℕ) (regs : Regs)
     → TurnLaws b → IsLegalPast b past → IsComing b past life → AllEntered b past
-    → HasLanded b (exchange b past (Call c regs))
+    → HasLanded b (started_by (sent_in (legal b past (Call c regs)))) (exchange b past (Call c regs))
 call_landed b life past c regs laws is coming entered =
     asked_landed b life past (Call c regs) laws.settle is coming
     (call_asked b life past c regs laws is coming entered)
@@ -155,13 +156,13 @@ none_sent b past event c is = grind (arith, nat_tests)
 
 pub kick_landed : (b : BoardValue) (life : ℕ) (past : List Record) (event : Event) (c : ℕ)
     → IsKick event c → IsLegalPast b past → IsComing b past life → AllEntered b past
-    → HasLanded b (exchange b past event)
+    → HasLanded b (Some c) (exchange b past event)
 unfolding exchange
 kick_landed b life past event c kick is coming entered =
     let next : List Record = step b past event in
     let left : IsKicked b past event (legal b past event) c =
     kicks b past event (legal b past event) c kick in
-    subst (λ k. HasLanded b (serving b next k)) (sym (none_sent b past event c kick))
+    subst (λ k. HasLanded b (Some c) (serving b next k)) (sym (none_sent b past event c kick))
     (record {
       legal = (refl, is);
       coming = λ l present.
@@ -172,6 +173,5 @@ kick_landed b life past event c kick is coming entered =
             none = λ x on. ap (λ (u : Values). (in_life b life u).outstanding (OfCore x))
                 left.firmware ∙ coming.none x on;
           });
-      one = c;
       others = λ x on ne e. entered x on (sym (left.place x ne) ∙ e);
     })

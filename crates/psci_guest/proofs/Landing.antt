@@ -2,8 +2,8 @@
 -- is at its start.
 use Rattle.psci_headline.proofs.Words.{◌<◌, ◌≡◌, BoardValue, controller_values, cores, false}
 use Rattle.psci_headline.proofs.Words.{firmware_values, in_life, inl, IsLegalPast, List}
-use Rattle.psci_headline.proofs.Words.{None, OfCore, Record}
-use Rattle.psci_headline.proofs.Words.{refl, Some, ℕ}
+use Rattle.psci_headline.proofs.Words.{None, OfCore, Option, Record}
+use Rattle.psci_headline.proofs.Words.{refl, Some, unwrap_or, ℕ}
 use Rattle.psci_headline.proofs.Beginning.{HasEntered, HasNoStart, IsUnderWay}
 use Rattle.psci_headline.proofs.Counting.{none_added}
 use Rattle.psci_headline.proofs.Going.{goes_on, IsGoing}
@@ -30,12 +30,26 @@ pub record AreHome (b : BoardValue) (past : List Record) (life : ℕ) : Type 0 w
   pub coming : IsComing b past life
   pub entered : AllEntered b past
 
+-- only this core may be at its start, or none
+abbrev pub AtMost : BoardValue → Option ℕ → List Record → Type 0
+AtMost b None past = AllEntered b past
+AtMost b (Some one) past = AreIn b one past
+
+pub any_most : (b : BoardValue) (o : Option ℕ) (past : List Record) → AllEntered b past
+    → AtMost b o past
+any_most b None past is = is
+any_most b (Some one) past is = λ x on ne. is x on
+
+pub one_most : (b : BoardValue) (o : Option ℕ) (past : List Record) → AtMost b o past
+    → AreIn b (unwrap_or o 0) past
+one_most b None past is = λ x on ne. is x on
+one_most b (Some one) past is = is
+
 -- What is so after any.
-pub record HasLanded (b : BoardValue) (past : List Record) : Type 0 where
+pub record HasLanded (b : BoardValue) (o : Option ℕ) (past : List Record) : Type 0 where
   pub legal : IsLegalPast b past
   pub coming : (life : ℕ) → (controller_values b past).life ≡ Some life → IsComing b past life
-  pub one : ℕ
-  pub others : AreIn b one past
+  pub others : AtMost b o past
 
 -- the settling of a life begins here
 pub under_way : (b : BoardValue) (past : List Record) (life : ℕ) → IsLegalPast b past

@@ -6,6 +6,8 @@ pub mod Asked
 pub mod Happened
 pub mod Over
 pub mod Turning
+pub mod Arriving
 pub mod Tied
+pub mod Events
 -- Worked examples.
 mod TurnRows

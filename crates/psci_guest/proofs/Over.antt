@@ -28,27 +28,26 @@ none_called b past c regs at = grind (arith, nat_tests)
 -- an event of which nothing comes
 nothing : (b : BoardValue) (past : List Record) (event : Event) → TurnLaws b → IsOver b past
     → number_in (legal b past event) ≡ None
-    → (controller_values b (step b past event)).life ≡ None → HasLanded b (exchange b past event)
+    → (controller_values b (step b past event)).life ≡ None → HasLanded b None (exchange b past event)
 unfolding exchange
 nothing b past event laws is none over =
     let next : List Record = step b past event in
     let off : IsOver b next = record { legal = (refl, is.legal); over = over } in
-    subst (λ k. HasLanded b (serving b next k)) (sym none) (record {
+    subst (λ k. HasLanded b None (serving b next k)) (sym none) (record {
       legal = off.legal;
       coming = λ l present. absurd (none-some l (sym over ∙ present));
-      one = 0;
-      others = λ x on ne e.
+      others = λ x on e.
           let no : Stopped ≡ Started = sym (stands b next x laws off) ∙ e in absurd (cc);
     })
 
 kicked : (b : BoardValue) (past : List Record) (event : Event) (c : ℕ) → IsKick event c
-    → TurnLaws b → IsOver b past → HasLanded b (exchange b past event)
+    → TurnLaws b → IsOver b past → HasLanded b None (exchange b past event)
 kicked b past event c kick laws is =
     nothing b past event laws is (none_sent b past event c kick)
     ((kicks b past event (legal b past event) c kick).life ∙ is.over)
 
 pub over_landed : (b : BoardValue) (past : List Record) (t : Turn) → TurnLaws b → IsOver b past
-    → HasLanded b (exchange b past (event_of t))
+    → HasLanded b None (exchange b past (event_of t))
 over_landed b past (Calls c regs) laws is =
     nothing b past (Call c regs) laws is (none_called b past c regs (stands b past c laws is))
     (ap (λ (u : controlled.Values). u.life) (call_control b past c regs) ∙ is.over)

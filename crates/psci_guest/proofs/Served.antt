@@ -169,7 +169,7 @@ module _ (b : BoardValue) (life : ℕ) (past rest : List Record) (m : MessageVal
       | inr ne ↦ em.there x ne ∙ none_other x inside ne (out_at b x past) refl
     ]
 
-    pub start_landed : HasLanded b next
+    pub start_landed : HasLanded b (Some t) next
     start_landed =
         let after : Values = firmware_values b next in
         let stays : (controller_values b next).life ≡ Some life =
@@ -190,7 +190,6 @@ module _ (b : BoardValue) (life : ℕ) (past rest : List Record) (m : MessageVal
                     ap (λ (u : Values). u.outstanding (OfCore x)) same
                     ∙ none_started x inside;
               });
-          one = t;
           others = λ x inside ne e.
               is.entered x inside
               (sym (start_place (ack_to b past m) m.kind x (place b past x) kind ne)
@@ -250,7 +249,7 @@ module _ (b : BoardValue) (life : ℕ) (past rest : List Record) (m : MessageVal
         let more = begins l present in
         omega (arith, e, own, more))
 
-    pub system_landed : HasLanded b next
+    pub system_landed : HasLanded b (Some 0) next
     system_landed = record {
       legal = done.legal;
       coming = λ l present. record {
@@ -258,7 +257,6 @@ module _ (b : BoardValue) (life : ℕ) (past rest : List Record) (m : MessageVal
         awake = ap (λ (u : Values). u.halting) (fresh l present);
         none = λ x inside. ap (λ (u : Values). u.outstanding (OfCore x)) (fresh l present);
       };
-      one = 0;
       others = λ x inside ne e.
           let no : Stopped ≡ Started =
           sym (over.places x (place b past x) ne) ∙ sym (done.place x) ∙ e in absurd (cc);

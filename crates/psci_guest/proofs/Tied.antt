@@ -144,7 +144,7 @@ served_so b past k m more at = by (delivery_of b (controller_values b past) m) r
 
 -- An exchange -------------------------------------------------------------------------------------
 
-sent_step : (b : BoardValue) (past : List Record) (event : Event)
+pub sent_step : (b : BoardValue) (past : List Record) (event : Event)
     → sent (step b past event) ≡ listed (sent_in (legal b past event)) ++ sent past
 unfolding sent
 sent_step b past event = refl
@@ -166,20 +166,20 @@ exchanged_so b past event (Some m) more e =
     ∙ ap (λ o. listed o ++ sent past) e) ∙ numbered_new m (sent past))
 
 -- what a reply says is sent
-reply_sends : (n : ℕ) (r : FwReply) → sent_in (said_of n r) ≡ message_of r
+pub reply_sends : (n : ℕ) (r : FwReply) → sent_in (said_of n r) ≡ message_of r
 reply_sends n r = grind (arith, nat_tests)
 
 -- A call or an entry ------------------------------------------------------------------------------
 
 -- what both keep after a record of it, by the firmware's reply
-record IsAskedOf (b : BoardValue) (past : List Record) (event : Event) (c : ℕ) (call : FwCall)
+pub record IsAskedOf (b : BoardValue) (past : List Record) (event : Event) (c : ℕ) (call : FwCall)
     (r : FwReply) : Type 0 where
   pub said : legal b past event ≡ said_of (length (sent past)) r
   pub firmware : firmware_values b (step b past event)
       ≡ after b c call r (firmware_values b past)
   pub controller : controller_values b (step b past event) ≡ controller_values b past
 
-asked_so : (b : BoardValue) (past : List Record) (event : Event) (c : ℕ) (call : FwCall)
+pub asked_so : (b : BoardValue) (past : List Record) (event : Event) (c : ℕ) (call : FwCall)
     (r : FwReply) → IsMore b → IsAskedOf b past event c call r
     → kept_after b (exchange b past event) ≡ with_call b c call r (kept_after b past)
 asked_so b past event c call r more is =

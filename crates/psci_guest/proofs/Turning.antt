@@ -1,4 +1,5 @@
 -- After each turn all is settled.
+use Rattle.std.proofs.Common.{unwrap_or}
 use Rattle.psci_headline.proofs.Words.{◌<◌, ◌∙◌, ◌∷◌, ◌≡◌, [], ap, AreAtRest}
 use Rattle.psci_headline.proofs.Words.{arith, BoardValue, cases_eq, cond-false, controller_values, cores}
 use Rattle.psci_headline.proofs.Words.{Enter, false, firmware_values, in_life, inl, inr, is_halting}
@@ -15,12 +16,17 @@ use Rattle.psci_headline.proofs.Folding.{each_done, IsStep}
 use Rattle.psci_headline.proofs.Going.{IsGoing}
 use Rattle.psci_headline.proofs.Settled.{at_rest}
 use Rattle.psci_headline.proofs.Standing.{settled_life}
+use Rattle.psci_world_spec.specs.declared.event.Event.TheVariants.{Call}
+use Rattle.psci_world_spec.specs.Histories.{sent_in}
+use Rattle.psci_world_spec.specs.Legal.{legal}
 use Rattle.psci_world_spec.specs.Places.{place}
+use Rattle.psci_guest.specs.Guest.{started_by}
 use Rattle.psci_guest.specs.Turns.{arrived, arriving, Calls, event_of, exchange, Resets}
 use Rattle.psci_guest.specs.Turns.{Turn, turns, Wakes}
 use Rattle.psci_guest.proofs.Happened.{call_landed, entry_landed, kick_landed, TurnLaws}
 use Rattle.psci_guest.proofs.Over.{IsOver, over_landed, stands}
-use Rattle.psci_guest.proofs.Landing.{AllEntered, AreHome, AreIn, HasLanded, IsComing, lands}
+use Rattle.psci_guest.proofs.Landing.{AllEntered, any_most, AreHome, AreIn, HasLanded, IsComing}
+use Rattle.psci_guest.proofs.Landing.{lands, one_most}
 
 -- What is so between two turns.
 pub record IsHome (b : BoardValue) (past : List Record) : Type 0 where
@@ -30,18 +36,18 @@ pub record IsHome (b : BoardValue) (past : List Record) : Type 0 where
 
 -- The cores that were started enter ---------------------------------------------------------------
 
-arriving_case : (b : BoardValue) (past : List Record) (c : ℕ) (P : List Record → Type 0)
+pub arriving_case : (b : BoardValue) (past : List Record) (c : ℕ) (P : List Record → Type 0)
     → (place b past c ≡ Started → P (exchange b past (Enter c)))
     → (HasEntered b c past → P past) → P (arriving b past c)
 arriving_case b past c P in_now not_now = grind (arith, nat_tests)
 
 -- What stays so meanwhile.
-record Arrives (b : BoardValue) (life one : ℕ) (past : List Record) : Type 0 where
+pub record Arrives (b : BoardValue) (life one : ℕ) (past : List Record) : Type 0 where
   pub legal : IsLegalPast b past
   pub coming : IsComing b past life
   pub others : AreIn b one past
 
-abbrev IsIn : BoardValue → ℕ → List Record → Type 0
+abbrev pub IsIn : BoardValue → ℕ → List Record → Type 0
 IsIn b c past = c < cores b → HasEntered b c past
 
 module _ (b : BoardValue) (life one : ℕ) (laws : TurnLaws b) where
@@ -53,7 +59,7 @@ module _ (b : BoardValue) (life one : ℕ) (laws : TurnLaws b) where
     | inr other ↦ is.others c on other at
   ]
 
-  enters : (past : List Record) (c : ℕ) → c < cores b → Arrives b life one past
+  pub enters : (past : List Record) (c : ℕ) → c < cores b → Arrives b life one past
       → place b past c ≡ Started → AreHome b (exchange b past (Enter c)) life
   enters past c on is at =
       entry_landed b life past c laws is.legal is.coming on at (the_one past c on is at)
@@ -119,20 +125,32 @@ home_in b past life all = record {
   entered = all.entered;
 }
 
-landed_home : (b : BoardValue) (past : List Record) (o : Option ℕ) → TurnLaws b
-    → (controller_values b past).life ≡ o → HasLanded b past → IsHome b (arrived b past)
-landed_home b past None laws e has =
+landed_home : (b : BoardValue) (past : List Record) (o one : Option ℕ) → TurnLaws b
+    → (controller_values b past).life ≡ o → HasLanded b one past → IsHome b (arrived b past)
+landed_home b past None one laws e has =
     let is : IsOver b past = record { legal = has.legal; over = e } in
     over_home b (arrived b past) laws (none_in b past laws is)
-landed_home b past (Some life) laws e has =
+landed_home b past (Some life) one laws e has =
     home_in b (arrived b past) life
-    (all_in b life has.one laws past
-    (record { legal = has.legal; coming = has.coming life e; others = has.others }))
+    (all_in b life (unwrap_or one 0) laws past
+    (record { legal = has.legal; coming = has.coming life e; others = one_most b one past has.others }))
 
-exchanged : (b : BoardValue) (past : List Record) (o : Option ℕ) (t : Turn) → TurnLaws b
+-- the core that a turn may start
+abbrev pub begun_by : BoardValue → List Record → Turn → Option ℕ
+begun_by b past (Calls c regs) = started_by (sent_in (legal b past (Call c regs)))
+begun_by b past (Wakes c) = Some c
+begun_by b past (Resets c) = Some c
+
+pub exchanged : (b : BoardValue) (past : List Record) (o : Option ℕ) (t : Turn) → TurnLaws b
     → (controller_values b past).life ≡ o → IsHome b past
-    → HasLanded b (exchange b past (event_of t))
-exchanged b past None t laws e is = over_landed b past t laws (record { legal = is.legal; over = e })
+    → HasLanded b (begun_by b past t) (exchange b past (event_of t))
+exchanged b past None t laws e is =
+    let all = over_landed b past t laws (record { legal = is.legal; over = e }) in
+    record {
+      legal = all.legal;
+      coming = all.coming;
+      others = any_most b (begun_by b past t) (exchange b past (event_of t)) all.others;
+    }
 exchanged b past (Some life) (Calls c regs) laws e is =
     call_landed b life past c regs laws is.legal (is.coming life e) is.entered
 exchanged b past (Some life) (Wakes c) laws e is =
@@ -142,7 +160,7 @@ exchanged b past (Some life) (Resets c) laws e is =
 
 -- The start ---------------------------------------------------------------------------------------
 
-first_landed : (b : BoardValue) → HasLanded b []
+first_landed : (b : BoardValue) → HasLanded b (Some 0) []
 unfolding place
 first_landed b = record {
   legal = tt;
@@ -155,17 +173,16 @@ first_landed b = record {
         awake = ap (λ (u : Values). (in_life b 1 u).halting) (first_kept b);
         none = λ x on. ap (λ (u : Values). (in_life b 1 u).outstanding (OfCore x)) (first_kept b);
       });
-  one = 0;
   others = λ x on ne e. grind (arith, nat_tests, cond-false, ne_eqb);
 }
 
 pub home : (b : BoardValue) (ts : List Turn) → TurnLaws b → IsHome b (turns b ts)
 unfolding turns
-home b [] laws = landed_home b [] (controller_values b []).life laws refl (first_landed b)
+home b [] laws = landed_home b [] (controller_values b []).life (Some 0) laws refl (first_landed b)
 home b (t ∷ ts) laws =
     let past : List Record = turns b ts in
     let next : List Record = exchange b past (event_of t) in
-    landed_home b next (controller_values b next).life laws refl
+    landed_home b next (controller_values b next).life (begun_by b past t) laws refl
     (exchanged b past (controller_values b past).life t laws refl (home b ts laws))
 
 -- Settled -----------------------------------------------------------------------------------------

@@ -9,6 +9,8 @@
 
 mod laws;
 mod pair;
+mod turned;
 
 pub use laws::law_turns;
 pub use pair::Pair;
+pub use turned::{Arrival, Turned};
