@@ -9,5 +9,6 @@ pub mod Turning
 pub mod Arriving
 pub mod Tied
 pub mod Events
+pub mod Doors
 -- Worked examples.
 mod TurnRows

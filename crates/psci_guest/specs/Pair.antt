@@ -1,6 +1,8 @@
 -- Firmware and power controller as one: what both keep, and what an exchange leaves of it.
-use Rattle.std.specs.Prelude.{◌≡◌, ℕ, Option, None, Some}
+use Rattle.std.specs.Prelude.{◌≡◌, ℕ, Bool, ◌==◌, ◌&&◌, nat_le, if◌then◌else◌, Option, None}
+use Rattle.std.specs.Prelude.{Some, option_and_then}
 use Rattle.psci_board.specs.Board.{BoardValue, IsBoard}
+use Rattle.psci_board.specs.declared.node.Core.{Core}
 use Rattle.psci_messages.specs.Message.{MessageValue}
 use Rattle.psci_ctl.specs.Seen.{ControllerValue, seen as seen_controller}
 use Rattle.psci_ctl_spec.specs.declared.call.CtlCall.TheVariants as asked
@@ -9,7 +11,8 @@ use Rattle.psci_ctl_spec.specs.declared.reply.CtlReply.{CtlReply}
 use Rattle.psci_ctl_spec.specs.declared.reply.CtlReply.TheVariants as replied
 use Rattle.psci_ctl_spec.specs.Changes as changes
 use Rattle.psci_ctl_spec.specs.Legal.{IsOfBoard}
-use Rattle.psci_ctl_spec.specs.Replies.{reply}
+use Rattle.psci_messages.specs.declared.start.Start.{Start}
+use Rattle.psci_ctl_spec.specs.Replies.{is_this_life, last_start, reply}
 use Rattle.psci_ctl_spec.specs.Values as controlled
 use Rattle.psci_fw.specs.Seen.{FirmwareValue, seen as seen_firmware}
 use Rattle.psci_fw_spec.specs.declared.call.FwCall.{FwCall}
@@ -18,7 +21,9 @@ use Rattle.psci_fw_spec.specs.declared.reply.FwReply.{FwReply}
 use Rattle.psci_fw_spec.specs.declared.reply.FwReply.TheVariants as replies
 use Rattle.psci_fw_spec.specs.After as leaves
 use Rattle.psci_fw_spec.specs.Answer.{answer}
+use Rattle.psci_fw_spec.specs.Phases.{is_running}
 use Rattle.psci_fw_spec.specs.Values as kept
+use Rattle.psci_guest.specs.declared.turned.Arrival.{Arrival}
 
 -- Both, as contracts see them.
 pub record PairValue : Type 0 where
@@ -87,3 +92,28 @@ SendsSound p c call = (m : MessageValue)
 pub record IsLeft (old new : PairValue) (k : Kept) : Type 0 where
   pub board : board_of new ≡ board_of old
   pub kept : kept_by new ≡ k
+
+-- A core at its start -----------------------------------------------------------------------------
+
+-- a core runs, in this life
+abbrev pub runs_in : Kept → ℕ → ℕ → Bool
+runs_in k life c = is_this_life k.controller.life life && is_running (k.firmware.phase c)
+
+-- the firmware knows of this start of a core
+abbrev pub is_known : Kept → ℕ → Start → Bool
+is_known k c s = s.life == k.firmware.life && nat_le s.number (k.firmware.known c)
+
+-- the start by which a core is to enter: its last one, unless the firmware knows of it
+abbrev pub waiting_in : Kept → ℕ → Option Start
+waiting_in k c =
+    option_and_then (λ s. if is_known k c s then None else Some s) (last_start k.controller c)
+
+-- what is told of a core that entered by this start, and was replied so
+abbrev pub arrival_of : Core → Start → FwReply → Option Arrival
+arrival_of core s (replies.Out o) = Some (record { core = core; start = s; act = o.act })
+arrival_of core s (replies.Taken taken) = None
+arrival_of core s (replies.Fault fault) = None
+
+-- what the firmware replies to a core that enters by this start
+abbrev pub entry_reply : PairValue → ℕ → Start → FwReply
+entry_reply p c s = answer (board_of p) (seen_firmware p.firmware) c (calls.Enter s)

@@ -1,5 +1,6 @@
 //! Firmware and power controller as one.
 
+use crate::turned::Arrival;
 use psci_board::{Board, Core, Memory};
 use psci_ctl::{Controller, Delivery, Kick, Message};
 use psci_fw::{Firmware, FwFault, Outcome, Regs, Start};
@@ -41,8 +42,9 @@ ghost use Rattle.psci_fw_spec.specs.Answer.{answer, reply_of};
 ghost use Rattle.psci_fw_spec.specs.Lives as lives;
 ghost use Rattle.psci_fw_spec.specs.declared.call.FwCall.TheVariants as calls;
 ghost use Rattle.psci_messages.specs.Message.{MessageValue};
+ghost use Rattle.psci_messages.specs.declared.start.Start as starts;
 ghost use Rattle.psci_guest.specs.Pair.{IsLeft, SendsSound, board_of, kept_by, with_call};
-ghost use Rattle.psci_guest.specs.Pair.{with_message};
+ghost use Rattle.psci_guest.specs.Pair.{arrival_of, entry_reply, runs_in, waiting_in, with_message};
 
 impl Pair {
     /// Firmware and power controller of this board, as the machine comes on: the firmware is in no
@@ -100,6 +102,44 @@ impl Pair {
         let outcome = self.firmware.enter(core, start)?;
         self.deliver(outcome.message.as_ref());
         Ok(outcome)
+    }
+
+    /// Whether a core runs, in this life.
+    pub fn runs(&self, core: Core, life: u32) -> bool
+        ensures { result ≡ runs_in (kept_by self.now) life core.number }
+    {
+        self.controller.life() == Some(life) && self.firmware.running(core)
+    }
+
+    /// A core enters that was started, if it was: how it does, or None, and nothing changes.
+    pub fn arrive(&mut self, core: Core) -> Option<Arrival>
+        requires core { core.number < cores (board_of self.old) }
+        requires sound { (s : starts.Start) → waiting_in (kept_by self.old) core.number ≡ Some s
+            → SendsSound self.old core.number (calls.Enter s) }
+        ensures none { waiting_in (kept_by self.old) core.number ≡ None
+            → (result ≡ None) × (self.new ≡ self.old) }
+        ensures told { (s : starts.Start) → waiting_in (kept_by self.old) core.number ≡ Some s
+            → result ≡ arrival_of core s (entry_reply self.old core.number s) }
+        ensures left { (s : starts.Start) → waiting_in (kept_by self.old) core.number ≡ Some s
+            → IsLeft self.old self.new (with_call (board_of self.old) core.number
+            (calls.Enter s) (entry_reply self.old core.number s) (kept_by self.old)) }
+    {
+        let start = self.waiting(core)?;
+        let Ok(Outcome { act, .. }) = self.enter(core, start) else {
+            return None;
+        };
+        Some(Arrival { core, start, act })
+    }
+
+    /// The start by which a core is to enter, if it is at its start.
+    fn waiting(&self, core: Core) -> Option<Start>
+        requires { core.number < cores (board_of self.now) }
+        ensures { result ≡ waiting_in (kept_by self.now) core.number }
+    {
+        let start = self.controller.started(core)?;
+        let life = self.firmware.life().unwrap_or(0);
+        let is_known = start.life == life && start.number <= self.firmware.known(core);
+        (!is_known).then_some(start)
     }
 
     /// A core has a wake-up event, after it stopped in its last start.
