@@ -16,7 +16,7 @@ use Rattle.psci_ctl_spec.specs.Values as controlled
 use Rattle.psci_headline.proofs.Agreeing.{found_own}
 use Rattle.psci_headline.proofs.Standing.{settled_life, SettleLaws}
 use Rattle.psci_world_spec.specs.Histories.{sent}
-use Rattle.psci_guest.specs.Guest.{core_started, started_by}
+use Rattle.psci_guest.specs.Turns.{core_started, started_by}
 use Rattle.psci_guest.specs.Turns.{exchange, number_in}
 use Rattle.psci_guest.proofs.Landing.{AllEntered, AreHome, HasLanded, IsComing}
 use Rattle.psci_guest.proofs.Numbers.{numbered, same_listed}

@@ -11,8 +11,8 @@ use Rattle.psci_headline.proofs.Agreeing.{found_other, found_own}
 use Rattle.psci_headline.proofs.Placing.{last_is}
 use Rattle.psci_headline.proofs.Standing.{SettleLaws}
 use Rattle.psci_world_spec.specs.Places.{place}
+use Rattle.psci_guest.specs.Guest.{kept_after}
 use Rattle.psci_guest.specs.Pair.{is_known, Kept, waiting_in}
-use Rattle.psci_guest.proofs.Tied.{kept_after}
 
 -- What a core that is to enter waits with.
 record IsNew (k : Kept) (c : ℕ) (s : Start) : Type 0 where

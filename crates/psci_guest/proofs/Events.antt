@@ -35,9 +35,10 @@ use Rattle.psci_world_spec.specs.Legal.{IsLegalPast, legal, said_by, said_of, se
 use Rattle.psci_world_spec.specs.Places.{place}
 use Rattle.psci_headline.specs.Settling.{step}
 use Rattle.psci_headline.proofs.Standing.{SettleLaws}
+use Rattle.psci_guest.specs.Guest.{kept_after}
 use Rattle.psci_guest.specs.Pair.{Kept, message_of, with_call}
 use Rattle.psci_guest.specs.Turns.{exchange}
-use Rattle.psci_guest.proofs.Tied.{asked_so, exchanged_so, IsAskedOf, IsMore, kept_after}
+use Rattle.psci_guest.proofs.Tied.{asked_so, exchanged_so, IsAskedOf, IsMore}
 use Rattle.psci_guest.proofs.Tied.{reply_sends, sent_step}
 
 -- Calls -------------------------------------------------------------------------------------------
@@ -50,7 +51,7 @@ same_outcome n o = ap (λ m. record { act = o.act; message = m }) (by o.message)
     by None = refl
     by (Some m) = refl
 
-call_said : (b : BoardValue) (past : List Record) (c : ℕ) (regs : Regs) → c < cores b
+pub call_said : (b : BoardValue) (past : List Record) (c : ℕ) (regs : Regs) → c < cores b
     → place b past c ≡ Running → legal b past (Call c regs)
     ≡ said_of (length (sent past)) (answer b (firmware_values b past) c (calls.Smc regs))
 unfolding legal
@@ -83,7 +84,7 @@ call_kept b past c regs more on at =
 
 -- Entries -----------------------------------------------------------------------------------------
 
-entry_said : (b : BoardValue) (past : List Record) (c : ℕ) (s : Start) → c < cores b
+pub entry_said : (b : BoardValue) (past : List Record) (c : ℕ) (s : Start) → c < cores b
     → place b past c ≡ Started → last_start (controller_values b past) c ≡ Some s
     → legal b past (Enter c)
     ≡ said_of (length (sent past)) (answer b (firmware_values b past) c (calls.Enter s))

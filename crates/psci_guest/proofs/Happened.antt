@@ -19,7 +19,7 @@ use Rattle.psci_headline.proofs.Standing.{SettleLaws}
 use Rattle.psci_world_spec.specs.Histories.{sent_in, controller_history, firmware_history, sent}
 use Rattle.psci_world_spec.specs.Legal.{legal}
 use Rattle.psci_world_spec.specs.Places.{place}
-use Rattle.psci_guest.specs.Guest.{started_by}
+use Rattle.psci_guest.specs.Turns.{started_by}
 use Rattle.psci_guest.specs.Turns.{exchange, number_in}
 use Rattle.psci_guest.proofs.Asked.{asked_landed, IsAsked, stays}
 use Rattle.psci_guest.proofs.Landing.{AllEntered, AreHome, AreIn, HasLanded, IsComing}

@@ -10,5 +10,7 @@ pub mod Arriving
 pub mod Tied
 pub mod Events
 pub mod Doors
+pub mod Stepping
 -- Worked examples.
+mod PairRows
 mod TurnRows

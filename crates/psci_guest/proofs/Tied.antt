@@ -33,16 +33,10 @@ use Rattle.psci_world_spec.specs.Legal.{legal, said_of}
 use Rattle.psci_world_spec.specs.Lists.{indexed}
 use Rattle.psci_headline.specs.Settling.{serving, step}
 use Rattle.psci_headline.proofs.Finding.{indexed_at, numbered_new}
+use Rattle.psci_guest.specs.Guest.{kept_after}
 use Rattle.psci_guest.specs.Pair.{Kept, message_of, with_ack, with_call, with_message}
 use Rattle.psci_guest.specs.Turns.{exchange, number_in}
 use Rattle.psci_guest.proofs.Numbers.{numbered}
-
--- what both keep after these records
-abbrev pub kept_after : BoardValue → List Record → Kept
-kept_after b past = record {
-  firmware = firmware_values b past;
-  controller = controller_values b past;
-}
 
 -- what one exchange more leaves of the firmware
 abbrev pub IsMore : BoardValue → Type 0

@@ -20,7 +20,7 @@ use Rattle.psci_world_spec.specs.declared.event.Event.TheVariants.{Call}
 use Rattle.psci_world_spec.specs.Histories.{sent_in}
 use Rattle.psci_world_spec.specs.Legal.{legal}
 use Rattle.psci_world_spec.specs.Places.{place}
-use Rattle.psci_guest.specs.Guest.{started_by}
+use Rattle.psci_guest.specs.Turns.{started_by}
 use Rattle.psci_guest.specs.Turns.{arrived, arriving, Calls, event_of, exchange, Resets}
 use Rattle.psci_guest.specs.Turns.{Turn, turns, Wakes}
 use Rattle.psci_guest.proofs.Happened.{call_landed, entry_landed, kick_landed, TurnLaws}
@@ -160,7 +160,7 @@ exchanged b past (Some life) (Resets c) laws e is =
 
 -- The start ---------------------------------------------------------------------------------------
 
-first_landed : (b : BoardValue) → HasLanded b (Some 0) []
+pub first_landed : (b : BoardValue) → HasLanded b (Some 0) []
 unfolding place
 first_landed b = record {
   legal = tt;

@@ -1,9 +1,6 @@
 -- The power of a guest: what its methods answer, turn by turn.
 use Rattle.std.specs.Prelude.{◌≡◌, ℕ, ◌<◌, List, Option, None, Some}
 use Rattle.psci_board.specs.Board.{BoardValue, cores}
-use Rattle.psci_messages.specs.Message.{MessageValue}
-use Rattle.psci_messages.specs.declared.kind.Kind.{Kind}
-use Rattle.psci_messages.specs.declared.kind.Kind.TheVariants.{Down, Start, Off, Reset}
 use Rattle.psci_ctl_spec.specs.Replies.{last_start}
 use Rattle.psci_fw_spec.specs.declared.outcome.Act.{Act}
 use Rattle.psci_world_spec.specs.declared.event.Event.TheVariants.{Enter}
@@ -19,28 +16,19 @@ use Rattle.psci_guest.specs.declared.turned.Turned.{Turned}
 use Rattle.psci_guest.specs.Pair.{Kept, PairValue, board_of, kept_by}
 use Rattle.psci_guest.specs.Turns.{Turn, event_of, exchange, turn, turns}
 
--- The core that a message may start -----------------------------------------------------------------
-
--- its own, or where a life begins the boot core
-abbrev pub core_started : MessageValue → Kind → Option ℕ
-core_started m Down = None
-core_started m Start = Some m.core.number
-core_started m Off = Some 0
-core_started m Reset = Some 0
-
-abbrev pub started_by : Option MessageValue → Option ℕ
-started_by None = None
-started_by (Some m) = core_started m m.kind
+-- what both keep after these records
+abbrev pub kept_after : BoardValue → List Record → Kept
+kept_after b past = record {
+  firmware = firmware_values b past;
+  controller = controller_values b past;
+}
 
 -- Turns ---------------------------------------------------------------------------------------------
 
 -- The machine after these turns, newest first.
 pub record IsAfter (b : BoardValue) (ts : List Turn) (p : PairValue) : Type 0 where
   pub board : board_of p ≡ b
-  pub kept : kept_by p ≡ record {
-    firmware = firmware_values b (turns b ts);
-    controller = controller_values b (turns b ts);
-  }
+  pub kept : kept_by p ≡ kept_after b (turns b ts)
 
 -- what holds of each: there are such turns
 pub record HasTurns (p : PairValue) : Type 0 where

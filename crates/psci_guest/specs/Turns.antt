@@ -3,6 +3,9 @@
 use Rattle.std.specs.Prelude.{◌≡◌, ℕ, List, [], ◌∷◌, Option, None, Some, option_map}
 use Rattle.std.specs.Prelude.{if◌then◌else◌}
 use Rattle.psci_headline.specs.psci_board.Board.{BoardValue}
+use Rattle.psci_messages.specs.Message.{MessageValue}
+use Rattle.psci_messages.specs.declared.kind.Kind.{Kind}
+use Rattle.psci_messages.specs.declared.kind.Kind.TheVariants as kinds
 use Rattle.psci_headline.specs.psci_world_spec.psci_abi.declared.registers.Regs.{Regs}
 use Rattle.psci_headline.specs.psci_world_spec.declared.event.Event.{Event}
 use Rattle.psci_headline.specs.psci_world_spec.declared.event.Event.TheVariants.{Call, Enter, Wake}
@@ -61,6 +64,22 @@ turn b past t = arrived b (exchange b past (event_of t))
 unfoldable pub turns : BoardValue → List Turn → List Record
 turns b [] = arrived b []
 turns b (t ∷ ts) = turn b (turns b ts) t
+
+-- Which core may be started -------------------------------------------------------------------------
+
+-- the core that a message of this kind may start: its own, or where a life begins the boot core
+abbrev pub core_started : MessageValue → Kind → Option ℕ
+core_started m kinds.Down = None
+core_started m kinds.Start = Some m.core.number
+core_started m kinds.Off = Some 0
+core_started m kinds.Reset = Some 0
+
+-- the same of what was sent, if something was
+abbrev pub started_by : Option MessageValue → Option ℕ
+started_by None = None
+started_by (Some m) = core_started m m.kind
+
+-- Settled -------------------------------------------------------------------------------------------
 
 -- What holds between two turns.
 pub record IsSettled (b : BoardValue) (past : List Record) : Type 0 where

@@ -9,6 +9,7 @@
 
 mod laws;
 mod pair;
+mod steps;
 mod turned;
 
 pub use laws::law_turns;
