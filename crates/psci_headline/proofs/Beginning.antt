@@ -20,6 +20,7 @@ use Rattle.psci_headline.proofs.Finding.{numbered_old}
 use Rattle.psci_headline.proofs.fw_laws.Arriving.{found_life}
 use Rattle.psci_headline.proofs.Agreeing.{found_own}
 use Rattle.psci_headline.proofs.Moving.{entry_moves}
+use Rattle.psci_headline.proofs.Outcomes.{EnterSends, entry_sends}
 use Rattle.psci_headline.proofs.Placing.{last_is}
 use Rattle.psci_headline.proofs.Counting.{AreAdded, one_added}
 use Rattle.psci_headline.proofs.Folding.{IsStep}
@@ -54,6 +55,8 @@ record HasOutcome (b : BoardValue) (past : List Record) (c : ℕ) : Type 0 where
   pub act : Act
   pub sends : Option Sent
   pub said : legal b past (Enter c) ≡ Fw act sends
+  -- and of what is sent
+  pub ends : EnterSends c start (outcome_in act sends)
 
 has_outcome : (b : BoardValue) (past : List Record) (c : ℕ) → NoneRefused b past → c < cores b
     → place b past c ≡ Started → HasOutcome b past c
@@ -69,6 +72,7 @@ has_outcome b past c free on at =
       act = o.act;
       sends = sent_as (length (sent past)) o.message;
       said = grind (arith, nat_tests, cond-true, lt-ltb);
+      ends = grind (arith, nat_tests, entry_sends);
     }
 
 -- What is so after an entry of a started core.
@@ -81,6 +85,7 @@ pub record HaveArrived (b : BoardValue) (past : List Record) (c : ℕ) : Type 0 
       ≡ change b (enter_effect c start act message) (firmware_values b past)
   pub allowed : IsAllowed b (firmware_values b past) (enter_effect c start act message)
   pub sent : sent (step b past (Enter c)) ≡ listed message ++ sent past
+  pub sends : EnterSends c start (record { act = act; message = message })
   pub here : place b (step b past (Enter c)) c ≡ Started → ⊥
   pub there : (x : ℕ) → (x ≡ c → ⊥) → place b (step b past (Enter c)) x ≡ place b past x
 
@@ -99,6 +104,7 @@ arrives b past c laws is free on at = record {
   allowed = laws.allowed entry h (subst (IsLegal b) more
       (firmware_legal b (step b past (Enter c)) (refl, is)));
   sent = ap (λ s. listed (sent_in s) ++ sent past) out.said;
+  sends = out.ends;
   here = λ e. grind (arith, nat_tests, not_started, out, cond-true, eq-eqb, said_place);
   there = λ x ne. grind (arith, nat_tests, said_place, cond-false, ne_eqb);
 }
@@ -183,7 +189,7 @@ pub more_starts : (messages : List MessageValue) (k : ℕ)
     → IsStartAt now k
 more_starts messages k is now keeps = grind (arith, nat_tests)
 
-enters_in : (b : BoardValue) (before : List Record) (life : ℕ) (past : List Record) (c : ℕ)
+pub enters_in : (b : BoardValue) (before : List Record) (life : ℕ) (past : List Record) (c : ℕ)
     → SettleLaws b → IsUnderWay b before life past → c < cores b → place b past c ≡ Started
     → IsIn b before life past c
 enters_in b before life past c laws way on at =

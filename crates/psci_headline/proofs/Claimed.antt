@@ -34,10 +34,11 @@ from_start b starts depth level place p first from live =
     first n has (same_sum b starts n ∙ sym live ∙ zero)
     ∙ cond-false (is_on_path b 0 level place) 0 3 off ∙ sym deep
 
--- a live claim on a domain below this level is its depth
+-- a live claim on a domain below this level is its depth, where the cores below it are deep
 pub claim_deep : (b : BoardValue) (life : ℕ) (starts : ℕ → ℕ) (depth : ℕ → ℕ → ℕ)
     (sent : List MessageValue) (r level place : ℕ) (p : Part) → AreFirst b starts depth
-    → ((c : ℕ) → AreDeep b life starts depth sent r c) → IsClaimOn b life level place p sent
+    → ((c : ℕ) → up b level c ≡ place → AreDeep b life starts depth sent r c)
+    → IsClaimOn b life level place p sent
     → p.generation ≡ known_below b starts level place → level < r → depth level place ≡ p.depth
 claim_deep b life starts depth sent r level place p first deep claim live low = elim claim [
   | inl from ↦ from_start b starts depth level place p first from live

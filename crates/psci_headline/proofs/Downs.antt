@@ -45,7 +45,8 @@ pub record IsLeft (b : BoardValue) (starts : ℕ → ℕ) (m : MessageValue) (r 
   pub live : IsLivePart b starts m level part
   pub high : r < level
 
--- An outstanding Down was served, where live claims below this level have their depth.
+-- An outstanding Down was served, where live claims of other cores have their depth below this
+-- level.
 pub record IsDownAnswered (b : BoardValue) (before : List Record) (life : ℕ) (past : List Record)
     (r c k : ℕ) (m : MessageValue) : Type 0 where
   pub going : IsGoing b before life (serving b past (Some k))
@@ -81,7 +82,7 @@ left_from t m x e = grind (arith, nat_tests)
 
 module _ (b : BoardValue) (before : List Record) (life : ℕ) (past : List Record) (r c : ℕ)
     (m : MessageValue) (laws : SettleLaws b) (going : IsGoing b before life past)
-    (deep : (x : ℕ) → AreDeep b life (controller_values b past).starts
+    (deep : (x : ℕ) → (x ≡ c → ⊥) → AreDeep b life (controller_values b past).starts
     (controller_values b past).depth (sent past) r x)
     (out : IsOut b life past c m) (n : HasNumber m (sent past))
     (at : (firmware_values b past).outstanding (OfCore c) ≡ Some m) where
@@ -116,8 +117,9 @@ module _ (b : BoardValue) (before : List Record) (life : ℕ) (past : List Recor
   are : AreApplied b life w.starts (sent past) m.core.number (take count m.parts)
   are = grind (arith, nat_tests, take_get, front, same_sum)
 
-  ready : IsReady b life v.known v.phase (sent past) w r
-  ready = ready_now b before life past r laws going deep
+  ready : IsReady b life v.known v.phase (sent past) w r m.core.number
+  ready = ready_now b before life past r m.core.number laws going
+      (λ x ne. deep x (λ e. ne (e ∙ sym out.core)))
 
   ack_laws : AckLaws b w m.core.number m.parts
   ack_laws = grind (arith, nat_tests)

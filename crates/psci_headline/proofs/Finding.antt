@@ -62,7 +62,7 @@ pub name_of : (m n : MessageValue) → has_name m n ≡ true → HaveName m n
 name_of m n e = grind (arith, nat_tests, and_parts, same_kind, eqb-true)
 
 -- a message has its own name
-own_name : (m : MessageValue) → has_name m m ≡ true
+pub own_name : (m : MessageValue) → has_name m m ≡ true
 own_name m = grind (arith, nat_tests, and_from, own_kind, eq-eqb)
 
 -- The number of a message, as it is found by its name.

@@ -58,12 +58,12 @@ waits_now b before life past laws going =
     (found_own b life (firmware_values b past) (sym going.own))
     ((laws.past past going.legal).waits life going.present)
 
-pub ready_now : (b : BoardValue) (before : List Record) (life : ℕ) (past : List Record) (r : ℕ)
-    → SettleLaws b → IsGoing b before life past
+pub ready_now : (b : BoardValue) (before : List Record) (life : ℕ) (past : List Record)
+    (r one : ℕ) → SettleLaws b → IsGoing b before life past
     → let w = controller_values b past in let v = firmware_values b past in
-    ((c : ℕ) → AreDeep b life w.starts w.depth (sent past) r c)
-    → IsReady b life v.known v.phase (sent past) w r
-ready_now b before life past r laws going deep =
+    ((c : ℕ) → (c ≡ one → ⊥) → AreDeep b life w.starts w.depth (sent past) r c)
+    → IsReady b life v.known v.phase (sent past) w r one
+ready_now b before life past r one laws going deep =
     let is : IsPast b past = laws.past past going.legal in
     let v : Values = firmware_values b past in
     record {

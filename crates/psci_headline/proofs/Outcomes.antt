@@ -44,7 +44,7 @@ call_sends b v c r o f e = grind (arith, nat_tests, outcome_sends)
 abbrev pub EnterSends : ℕ → Start → Outcome → Type 0
 EnterSends c s o = says.sent (enter_effect c s o.act o.message) ≡ o.message
 
-entry_sends : (b : BoardValue) (v : Values) (c : ℕ) (s : Start)
+pub entry_sends : (b : BoardValue) (v : Values) (c : ℕ) (s : Start)
     → EnterSends c s (enter_outcome b v c s)
 unfolding enter_outcome
 entry_sends b v c s = grind (arith, nat_tests)

@@ -186,7 +186,7 @@ step_case b before life n first past c P laws is none some =
     (λ m at any number.
     let out = out_now b before life past c m laws is.going at in
     some number.number m at out.core out.down.kind
-    (down_answered b before life past n c m laws is.going is.deep out number at))
+    (down_answered b before life past n c m laws is.going (λ x ne. is.deep x) out number at))
 
 pub round_step : (b : BoardValue) (before : List Record) (life n : ℕ) (first : List Record)
     → SettleLaws b

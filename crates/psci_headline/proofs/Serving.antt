@@ -128,7 +128,7 @@ answered_so b past k m laws is at present used =
 -- Names ----------------------------------------------------------------------------------------
 
 -- an acknowledgement answers each message that has the name of its own
-named_answers : (a : AckValue) (m n : MessageValue) → HasName a n → HaveName m n
+pub named_answers : (a : AckValue) (m n : MessageValue) → HasName a n → HaveName m n
     → answers a m ≡ true
 named_answers a m n mine same = grind (arith, nat_tests, and_from, own_kind, eq-eqb)
 

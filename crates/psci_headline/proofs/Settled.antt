@@ -62,7 +62,7 @@ module _ (b : BoardValue) (before : List Record) (life : ℕ) (past : List Recor
       sym has.deep
       ∙ sym (claim_deep b life w.starts w.depth (sent past) (suc level) level place has.part
       (waits_now b before life past laws going).first
-      (λ c. all_deep b before life past (suc level) c laws going none) has.claim
+      (λ c below. all_deep b before life past (suc level) c laws going none) has.claim
       (has.current ∙ same_known level place) (omega arith))
 
   -- a domain that is not fully on was granted its depth

@@ -201,7 +201,8 @@ module _ (b : BoardValue) (p : Port) (laws : SettleLaws b) (mirror : IsMirror b 
     number = finds m (sent p.past) is_out.down.index is_out.down.at
 
     answered : IsDownAnswered b p.past on.life p.past r c number.number m
-    answered = down_answered b p.past on.life p.past r c m laws going deep is_out number out
+    answered = down_answered b p.past on.life p.past r c m laws going (λ x ne. deep x) is_out number
+        out
 
     emptied : IsEmptying b p.past c number.number m m
     emptied = subst (λ x. IsEmptying b p.past c number.number m x)

@@ -1,0 +1,207 @@
+-- What both keep after each event that begins an exchange.
+use Rattle.std.specs.Prelude.{slice_get}
+use Rattle.std.proofs.Common.{◌++◌, ◌<◌, ◌∙◌, ◌∷◌, ◌≡◌, ap, arith, length, List, None, Option, option_map}
+use Rattle.std.proofs.Common.{refl, Some, sym, ℕ}
+use Rattle.std.proofs.lemmas.Bool.{cond-true, lt-ltb}
+use Rattle.std.proofs.lemmas.Bool.Decides.{nat_tests}
+use Rattle.psci_board.specs.Board.{BoardValue, cores}
+use Rattle.psci_ctl_spec.proofs.OneMore as controls
+use Rattle.psci_ctl_spec.specs.declared.call.CtlCall.{CtlCall}
+use Rattle.psci_ctl_spec.specs.declared.call.CtlCall.TheVariants as asked
+use Rattle.psci_ctl_spec.specs.declared.kick.Kick.{Kick}
+use Rattle.psci_ctl_spec.specs.declared.kick.Kick.TheVariants as kicks
+use Rattle.psci_ctl_spec.specs.declared.reply.CtlReply.TheVariants as replied
+use Rattle.psci_ctl_spec.specs.Changes as changes
+use Rattle.psci_ctl_spec.specs.Effects as effects
+use Rattle.psci_ctl_spec.specs.Legal.{IsOfBoard}
+use Rattle.psci_ctl_spec.specs.Replies.{last_start, reply, reset_of, wake_of}
+use Rattle.psci_fw_spec.specs.declared.call.FwCall.TheVariants as calls
+use Rattle.psci_fw_spec.specs.declared.outcome.Outcome.{Outcome}
+use Rattle.psci_fw_spec.specs.declared.reply.FwReply.{FwReply}
+use Rattle.psci_fw_spec.specs.declared.reply.FwReply.TheVariants as replies
+use Rattle.psci_fw_spec.specs.After.{after}
+use Rattle.psci_fw_spec.specs.Answer.{answer}
+use Rattle.psci_fw_spec.specs.Said.{listed}
+use Rattle.psci_messages.specs.Message.{MessageValue}
+use Rattle.psci_messages.specs.declared.start.Start.{Start}
+use Rattle.psci_world_spec.specs.psci_abi.declared.registers.Regs.{Regs}
+use Rattle.psci_world_spec.specs.declared.event.Event.{Event}
+use Rattle.psci_world_spec.specs.declared.event.Event.TheVariants.{Call, Enter, Reset, Wake}
+use Rattle.psci_world_spec.specs.declared.place.Place.TheVariants.{Running, Started, Stopped}
+use Rattle.psci_world_spec.specs.declared.said.Record.{Record}
+use Rattle.psci_world_spec.specs.Histories.{acks, controller_history, controller_values}
+use Rattle.psci_world_spec.specs.Histories.{firmware_history, firmware_values, outcome_in, sent, sent_in}
+use Rattle.psci_world_spec.specs.Legal.{IsLegalPast, legal, said_by, said_of, sent_as}
+use Rattle.psci_world_spec.specs.Places.{place}
+use Rattle.psci_headline.specs.Settling.{step}
+use Rattle.psci_headline.proofs.Standing.{SettleLaws}
+use Rattle.psci_guest.specs.Guest.{kept_after}
+use Rattle.psci_guest.specs.Pair.{Kept, message_of, with_call}
+use Rattle.psci_guest.specs.Turns.{exchange}
+use Rattle.psci_guest.proofs.Tied.{asked_so, exchanged_so, IsAskedOf, IsMore}
+use Rattle.psci_guest.proofs.Tied.{reply_sends, sent_step}
+
+-- Calls -------------------------------------------------------------------------------------------
+
+-- an outcome is said as it is
+same_outcome : (n : ℕ) (o : Outcome) → outcome_in o.act (sent_as n o.message) ≡ o
+same_outcome n o = ap (λ m. record { act = o.act; message = m }) (by o.message)
+  where
+    by : (m : Option MessageValue) → option_map (λ s. s.message) (sent_as n m) ≡ m
+    by None = refl
+    by (Some m) = refl
+
+pub call_said : (b : BoardValue) (past : List Record) (c : ℕ) (regs : Regs) → c < cores b
+    → place b past c ≡ Running → legal b past (Call c regs)
+    ≡ said_of (length (sent past)) (answer b (firmware_values b past) c (calls.Smc regs))
+unfolding legal
+call_said b past c regs on at = grind (arith, nat_tests, cond-true, lt-ltb)
+
+call_firmware : (b : BoardValue) (past : List Record) (c : ℕ) (regs : Regs) (n : ℕ) (r : FwReply)
+    → IsMore b → legal b past (Call c regs) ≡ said_of n r
+    → firmware_values b (step b past (Call c regs))
+    ≡ after b c (calls.Smc regs) r (firmware_values b past)
+unfolding firmware_history after
+call_firmware b past c regs n r more e = grind (arith, nat_tests, same_outcome)
+
+call_is : (b : BoardValue) (past : List Record) (c : ℕ) (regs : Regs) → IsMore b → c < cores b
+    → place b past c ≡ Running → IsAskedOf b past (Call c regs) c (calls.Smc regs)
+    (answer b (firmware_values b past) c (calls.Smc regs))
+unfolding controller_history
+call_is b past c regs more on at = record {
+  said = call_said b past c regs on at;
+  firmware = call_firmware b past c regs (length (sent past)) _ more
+      (call_said b past c regs on at);
+  controller = refl;
+}
+
+pub call_kept : (b : BoardValue) (past : List Record) (c : ℕ) (regs : Regs) → IsMore b
+    → c < cores b → place b past c ≡ Running
+    → kept_after b (exchange b past (Call c regs)) ≡ with_call b c (calls.Smc regs)
+    (answer b (firmware_values b past) c (calls.Smc regs)) (kept_after b past)
+call_kept b past c regs more on at =
+    asked_so b past (Call c regs) c (calls.Smc regs) _ more (call_is b past c regs more on at)
+
+-- Entries -----------------------------------------------------------------------------------------
+
+pub entry_said : (b : BoardValue) (past : List Record) (c : ℕ) (s : Start) → c < cores b
+    → place b past c ≡ Started → last_start (controller_values b past) c ≡ Some s
+    → legal b past (Enter c)
+    ≡ said_of (length (sent past)) (answer b (firmware_values b past) c (calls.Enter s))
+unfolding legal
+entry_said b past c s on at last = grind (arith, nat_tests, cond-true, lt-ltb)
+
+entry_firmware : (b : BoardValue) (past : List Record) (c : ℕ) (s : Start) (n : ℕ) (r : FwReply)
+    → IsMore b → last_start (controller_values b past) c ≡ Some s
+    → legal b past (Enter c) ≡ said_of n r → firmware_values b (step b past (Enter c))
+    ≡ after b c (calls.Enter s) r (firmware_values b past)
+unfolding firmware_history after
+entry_firmware b past c s n r more last e = grind (arith, nat_tests, same_outcome)
+
+entry_is : (b : BoardValue) (past : List Record) (c : ℕ) (s : Start) → IsMore b → c < cores b
+    → place b past c ≡ Started → last_start (controller_values b past) c ≡ Some s
+    → IsAskedOf b past (Enter c) c (calls.Enter s)
+    (answer b (firmware_values b past) c (calls.Enter s))
+unfolding controller_history
+entry_is b past c s more on at last = record {
+  said = entry_said b past c s on at last;
+  firmware = entry_firmware b past c s (length (sent past)) _ more last
+      (entry_said b past c s on at last);
+  controller = refl;
+}
+
+pub entry_kept : (b : BoardValue) (past : List Record) (c : ℕ) (s : Start) → IsMore b
+    → c < cores b → place b past c ≡ Started → last_start (controller_values b past) c ≡ Some s
+    → kept_after b (exchange b past (Enter c)) ≡ with_call b c (calls.Enter s)
+    (answer b (firmware_values b past) c (calls.Enter s)) (kept_after b past)
+entry_kept b past c s more on at last =
+    asked_so b past (Enter c) c (calls.Enter s) _ more (entry_is b past c s more on at last)
+
+-- What is sent ------------------------------------------------------------------------------------
+
+-- a message that is said to be sent is for a core of the board
+sound_of : (b : BoardValue) (past : List Record) (event : Event) (m : MessageValue)
+    → SettleLaws b → IsLegalPast b past
+    → sent_in (legal b past event) ≡ Some m
+    → IsOfBoard b m
+sound_of b past event m laws is e =
+    let next : List Record = step b past event in
+    let all : sent next ≡ m ∷ sent past =
+    sent_step b past event
+    ∙ ap (λ o. listed o ++ sent past) e in
+    let holds = (laws.past next (refl, is)).given.holds in
+    let sound = (holds.messages 0 m (ap (λ l. slice_get l 0) all)).sound in
+    record { core = sound.core; levels = sound.few }
+
+pub call_sound : (b : BoardValue) (past : List Record) (c : ℕ) (regs : Regs) (m : MessageValue)
+    → SettleLaws b → IsLegalPast b past → c < cores b → place b past c ≡ Running
+    → message_of (answer b (firmware_values b past) c (calls.Smc regs)) ≡ Some m → IsOfBoard b m
+call_sound b past c regs m laws is on at e =
+    sound_of b past (Call c regs) m laws is
+    (ap sent_in (call_said b past c regs on at) ∙ reply_sends (length (sent past)) _ ∙ e)
+
+pub entry_sound : (b : BoardValue) (past : List Record) (c : ℕ) (s : Start) (m : MessageValue)
+    → SettleLaws b → IsLegalPast b past → c < cores b → place b past c ≡ Started
+    → last_start (controller_values b past) c ≡ Some s
+    → message_of (answer b (firmware_values b past) c (calls.Enter s)) ≡ Some m → IsOfBoard b m
+entry_sound b past c s m laws is on at last e =
+    sound_of b past (Enter c) m laws is
+    (ap sent_in (entry_said b past c s on at last) ∙ reply_sends (length (sent past)) _ ∙ e)
+
+-- Wake-ups and resets -----------------------------------------------------------------------------
+
+-- what both keep where the power controller is asked this
+abbrev pub with_kick : BoardValue → CtlCall → Kept → Kept
+with_kick b call k =
+    record k { controller = changes.after b call (reply b k.controller call) k.controller }
+
+kick_sends : (n : ℕ) (k : Kick) → sent_in (said_by n (replied.Kick k)) ≡ None
+kick_sends n k = grind (arith, nat_tests)
+
+wake_said : (b : BoardValue) (past : List Record) (c : ℕ) → c < cores b
+    → place b past c ≡ Stopped → legal b past (Wake c)
+    ≡ said_by (length (acks past)) (replied.Kick
+    (wake_of b (controller_values b past) c ((controller_values b past).starts c)))
+unfolding legal reply
+wake_said b past c on at = grind (arith, nat_tests, cond-true, lt-ltb)
+
+reset_said : (b : BoardValue) (past : List Record) (c : ℕ) → c < cores b
+    → legal b past (Reset c)
+    ≡ said_by (length (acks past)) (replied.Kick (reset_of b (controller_values b past) c))
+unfolding legal reply
+reset_said b past c on = grind (arith, nat_tests, cond-true, lt-ltb)
+
+wake_kicks : (b : BoardValue) (past : List Record) (c n : ℕ) (k : Kick)
+    → legal b past (Wake c) ≡ said_by n (replied.Kick k)
+    → controller_values b (step b past (Wake c)) ≡ changes.after b
+    (asked.Wake (record { number = c }) ((controller_values b past).starts c)) (replied.Kick k)
+    (controller_values b past)
+unfolding controller_history changes.after effects.effect_of
+wake_kicks b past c n k e = grind (arith, nat_tests, controls.values_more)
+
+reset_kicks : (b : BoardValue) (past : List Record) (c n : ℕ) (k : Kick)
+    → legal b past (Reset c) ≡ said_by n (replied.Kick k)
+    → controller_values b (step b past (Reset c)) ≡ changes.after b
+    (asked.Reset (record { number = c })) (replied.Kick k) (controller_values b past)
+unfolding controller_history changes.after effects.effect_of
+reset_kicks b past c n k e = grind (arith, nat_tests, controls.values_more)
+
+pub wake_kept : (b : BoardValue) (past : List Record) (c : ℕ) → IsMore b → c < cores b
+    → place b past c ≡ Stopped → kept_after b (exchange b past (Wake c)) ≡ with_kick b
+    (asked.Wake (record { number = c }) ((controller_values b past).starts c)) (kept_after b past)
+unfolding firmware_history reply
+wake_kept b past c more on at =
+    exchanged_so b past (Wake c) None more
+    (ap sent_in (wake_said b past c on at) ∙ kick_sends (length (acks past)) _)
+    ∙ ap (λ w. record { firmware = firmware_values b past; controller = w })
+    (wake_kicks b past c (length (acks past)) _ (wake_said b past c on at))
+
+pub reset_kept : (b : BoardValue) (past : List Record) (c : ℕ) → IsMore b → c < cores b
+    → kept_after b (exchange b past (Reset c))
+    ≡ with_kick b (asked.Reset (record { number = c })) (kept_after b past)
+unfolding firmware_history reply
+reset_kept b past c more on =
+    exchanged_so b past (Reset c) None more
+    (ap sent_in (reset_said b past c on) ∙ kick_sends (length (acks past)) _)
+    ∙ ap (λ w. record { firmware = firmware_values b past; controller = w })
+    (reset_kicks b past c (length (acks past)) _ (reset_said b past c on))

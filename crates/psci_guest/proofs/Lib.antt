@@ -1,0 +1,16 @@
+pub mod Numbers
+pub mod Slots
+pub mod Landing
+pub mod Served
+pub mod Asked
+pub mod Happened
+pub mod Over
+pub mod Turning
+pub mod Arriving
+pub mod Tied
+pub mod Events
+pub mod Doors
+pub mod Stepping
+-- Worked examples.
+mod PairRows
+mod TurnRows

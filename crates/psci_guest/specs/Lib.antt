@@ -1,0 +1,4 @@
+pub mod Turns
+pub mod Pair
+pub mod Guest
+pub mod Steps

@@ -1,0 +1,29 @@
+//! What comes of a turn.
+
+use psci_board::Core;
+use psci_fw::{Act, Start};
+
+/// A core that was started in a turn, and has entered.
+#[derive(Clone, Copy, Debug, PartialEq)]
+pub struct Arrival {
+    /// The core.
+    pub core: Core,
+    /// By which start it entered.
+    pub start: Start,
+    /// What it does next: it executes from an entry point on, resumes, or stands, since nobody
+    /// asked for its start.
+    pub act: Act,
+}
+
+/// What comes of a call.
+#[derive(Clone, Copy, Debug, PartialEq)]
+pub struct Turned {
+    /// What the caller does next: it goes on with a code, or stands.
+    pub act: Act,
+    /// The core that was started, if one was: the target of a CPU_ON, or the boot core in the next
+    /// life.
+    pub arrival: Option<Arrival>,
+    /// The life after the turn: None once the system is off, another one than before once it was
+    /// reset.
+    pub life: Option<u32>,
+}
