@@ -310,10 +310,11 @@ live_shut() {
     fi
 }
 
-# frames are lost, and nothing is sent again: Linux misses cores
+# frames are lost, and nothing is sent again: Linux misses cores. That of SYSTEM_OFF may be lost, too
 live_unsent() {
     say "Linux at EL3: the fault never-again"
-    EL3_OUT=$work/el3-unsent hosts/el3/run --seconds "$patience" --lose 5 --fault never-again each each boot-core each > "$work/out" 2>&1
+    EL3_OUT=$work/el3-unsent hosts/el3/run --seconds "$patience" --lose 5 --fault never-again --end-at "did not come" \
+        each each boot-core each > "$work/out" 2>&1
     if grep -q "^guest: core [0-9] did not come" "$work/out"; then pass; else
         fail "hosts/el3/run --lose 5 --fault never-again: each core comes"
         tail -n 5 "$work/out"
