@@ -5,69 +5,28 @@
  * firmware before any event and after each. By `anew` the firmware is made anew as each life begins,
  * with the first entry in it: that cannot be told. */
 #define _XOPEN_SOURCE 700
+#include "player.h"
 #include "pool.h"
-#include "psci_ctl.h"
 
 #include <inttypes.h>
 #include <stdio.h>
 #include <stdlib.h>
 #include <string.h>
 
-enum { MOST_CORES = 256, MOST_FRAMES = 100000, MOST_LINE = 512 };
+enum { MOST_CORES = 256, MOST_LINE = 512 };
 
-/* Where a core is, and its last start. */
-enum place { STOPPED, STARTED, RUNNING };
-static struct core {
-    enum place place;
-    uint32_t number, cause;
-    uint64_t affinity;
-} cores[MOST_CORES];
-
-static struct psci_place place;
-static struct psci_poller poller;
-static struct psci_ctl_place controller;
+/* The affinity of each core. */
+static uint64_t affinities[MOST_CORES];
 static unsigned many_cores;
-static uint32_t life;
-static uint8_t messages[MOST_FRAMES][PSCI_FRAME_LEN], acks[MOST_FRAMES][PSCI_FRAME_LEN];
-static uint64_t many_messages, many_acks;
+static struct psci_poller poller;
 static FILE *readings;
 
 /* The board's text, if the firmware is made anew for each life. */
 static char *anew;
 
-static void fail(const char *why) {
-    fprintf(stderr, "loop: %s\n", why);
-    exit(1);
-}
-
-/* A number in a frame, its highest byte first. */
-static uint64_t number_at(const uint8_t *bytes, int length) {
-    uint64_t number = 0;
-    for (int i = 0; i < length; i++)
-        number = number << 8 | bytes[i];
-    return number;
-}
-
-static uint32_t life_of(const uint8_t *frame) { return number_at(frame + 4, 4); }
-static uint32_t number_of(const uint8_t *frame) { return number_at(frame + 8, 4); }
-
-/* The boot core is started, and every other is stopped. */
-static void start(unsigned core, uint32_t number, uint32_t cause) {
-    cores[core].place = STARTED;
-    cores[core].number = number;
-    cores[core].cause = cause;
-}
-
-static void stop_all(void) {
-    for (unsigned core = 0; core < many_cores; core++)
-        cores[core].place = STOPPED;
-}
-
-static void begin_life(void) {
-    stop_all();
-    start(0, 1, PSCI_CAUSE_BOOT);
-    life++;
-}
+unsigned core_named(uint64_t number) { return number < many_cores ? number : UINT16_MAX; }
+void write_core(unsigned core) { printf("%u", core); }
+void write_asked(const struct psci_asked *asked) { (void)asked; }
 
 /* Each number of the tree is a cluster of so many cores. Within the inner brackets clusters count
  * anew for each group. */
@@ -82,7 +41,7 @@ static void read_cores(const char *tree) {
             continue;
         uint64_t many = strtoul(tree, (char **)&tree, 10);
         for (uint64_t core = 0; core < many; core++)
-            cores[many_cores++].affinity = group << 16 | cluster << 8 | core;
+            affinities[many_cores++] = group << 16 | cluster << 8 | core;
         cluster++;
         tree--;
     }
@@ -134,9 +93,16 @@ static void write_readings(void) {
 static void poll_all(void) {
     for (unsigned core = 0; core < many_cores; core++) {
         uint32_t said = psci_status(&place, 0, core);
-        if (psci_poll(&poller, cores[core].affinity) != (said == PSCI_NO_LIFE ? 1 : (int32_t)said))
+        if (psci_poll(&poller, affinities[core]) != (said == PSCI_NO_LIFE ? 1 : (int32_t)said))
             fail("a poll is not what the firmware says");
     }
+}
+
+/* What holds after each event: the readers' lines, if they are wanted. */
+static void look(void) {
+    poll_all();
+    if (readings)
+        write_readings();
 }
 
 static void open_firmware(const char *text) {
@@ -156,151 +122,15 @@ static void open_board(const char *text) {
         anew = strdup(text);
     open_firmware(text);
     begin_life();
-    poll_all();
-    if (readings) {
+    if (readings)
         write_board();
-        write_readings();
-    }
+    look();
 }
 
-/* The message of an answer: it is kept, and follows the answer in its line. */
-static void send(const struct psci_frame *message) {
-    static const char *const kinds[] = {"", "down", "start", "off", "reset"};
-    if (!message->some)
-        return;
-    if (many_messages == MOST_FRAMES)
-        fail("too many messages");
-    const uint8_t *frame = message->bytes;
-    memcpy(messages[many_messages], frame, PSCI_FRAME_LEN);
-    printf(" #%" PRIu64 " %s %u life %" PRIu32 " number %" PRIu32, many_messages++,
-           kinds[frame[2]], frame[3], life_of(frame), number_of(frame));
-    if (frame[12])
-        printf(" parts");
-    for (const uint8_t *part = frame + 13; part < frame + 13 + 10 * frame[12]; part += 10)
-        printf(" %u:%u:%" PRIu64, part[0], part[1], number_at(part + 2, 8));
-}
-
-/* What a core does with its answer. */
-static void obey(unsigned core, const struct psci_answer *answer) {
-    cores[core].place = answer->what == PSCI_STOP ? STOPPED : RUNNING;
-    switch (answer->what) {
-    case PSCI_RETURN: printf("return %" PRId32, answer->code); break;
-    case PSCI_STOP: printf("stop"); break;
-    case PSCI_ENTER:
-        printf("enter 0x%" PRIx64 " 0x%" PRIx64, answer->address, answer->context);
-        break;
-    case PSCI_RESUME: printf("resume 0"); break;
-    default: fail("a call was refused");
-    }
-    send(&answer->message);
-}
-
-static void call(unsigned core, char *words) {
-    uint64_t x[4] = {0};
-    for (int i = 0; i < 4 && words; i++)
-        x[i] = strtoull(words, &words, 0);
-    struct psci_answer answer;
-    if (cores[core].place != RUNNING) {
-        printf("ignored");
-        return;
-    }
-    psci_smc(&place, core, x[0], x[1], x[2], x[3], &answer);
-    obey(core, &answer);
-}
-
-static void enter(unsigned core) {
-    struct psci_answer answer;
-    if (cores[core].place != STARTED) {
-        printf("ignored");
-        return;
-    }
+/* The firmware of a new life is made with the first entry in it. */
+void before_entry(void) {
     if (anew && life != psci_life(&place))
         open_firmware(anew);
-    psci_enter(&place, core, life, cores[core].number, cores[core].cause, &answer);
-    obey(core, &answer);
-}
-
-static void take(uint64_t k) {
-    if (k >= many_acks) {
-        printf("absent");
-        return;
-    }
-    uint32_t taken = psci_take(&place, acks[k], PSCI_FRAME_LEN);
-    if (taken > PSCI_OLD)
-        fail("an acknowledgement was refused");
-    printf(taken == PSCI_USED ? "used" : "old");
-}
-
-/* What the power controller has carried out: which cores it started. */
-static void carry_out(const struct psci_ctl_answer *answer) {
-    if (answer->what >= PSCI_CTL_NO_PLACE)
-        fail("the power controller refused a call");
-    if (answer->what == PSCI_CTL_OFF)
-        stop_all();
-    if (answer->what == PSCI_CTL_RESTART)
-        begin_life();
-    if (answer->what == PSCI_CTL_START)
-        start(answer->start.core, answer->start.number, answer->start.cause);
-    uint32_t present = psci_ctl_life(&controller);
-    if (present && present != life)
-        fail("the power controller is in another life");
-}
-
-static void deliver(uint64_t k) {
-    struct psci_ctl_answer answer;
-    if (k >= many_messages) {
-        printf("absent");
-        return;
-    }
-    psci_ctl_deliver(&controller, messages[k], PSCI_FRAME_LEN, &answer);
-    carry_out(&answer);
-    if (!answer.ack.some) {
-        printf("ignored");
-        return;
-    }
-    if (many_acks == MOST_FRAMES)
-        fail("too many acknowledgements");
-    printf("ack #%" PRIu64 " applied %u", many_acks, answer.ack.bytes[12]);
-    if (answer.ack.bytes[2] & 0x20)
-        printf(" stale");
-    memcpy(acks[many_acks++], answer.ack.bytes, PSCI_FRAME_LEN);
-}
-
-/* A wake-up of a core that is stopped, or a reset of any. */
-static void kick(unsigned core, uint32_t cause) {
-    struct psci_ctl_answer answer = {0};
-    if (cause == PSCI_CAUSE_RESET)
-        psci_ctl_reset(&controller, core, &answer);
-    else if (cores[core].place == STOPPED)
-        psci_ctl_wake(&controller, core, psci_ctl_starts(&controller, core), &answer);
-    carry_out(&answer);
-    if (answer.what == PSCI_CTL_START)
-        printf("started %" PRIu32, answer.start.number);
-    else
-        printf("ignored");
-}
-
-/* One event. */
-static void event(char *line) {
-    char *words = strchr(line, ' ');
-    uint64_t number = strtoull(words, &words, 10);
-    bool names_a_core = strchr("cewr", *line) != NULL;
-    if (names_a_core && number >= many_cores)
-        printf("absent");
-    else if (*line == 'c')
-        call(number, words);
-    else if (*line == 'e')
-        enter(number);
-    else if (*line == 't')
-        take(number);
-    else if (*line == 'd')
-        deliver(number);
-    else
-        kick(number, *line == 'w' ? PSCI_CAUSE_WAKE : PSCI_CAUSE_RESET);
-    putchar('\n');
-    poll_all();
-    if (readings)
-        write_readings();
 }
 
 int main(int count, char **words) {
@@ -319,6 +149,8 @@ int main(int count, char **words) {
         } else if (*line && *line != '#') {
             printf("%" PRIu64 " ", ++events);
             event(line);
+            putchar('\n');
+            look();
         }
     }
     psci_close(&place);

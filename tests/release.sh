@@ -28,7 +28,7 @@ release() {
             lib/x86_64/pkgconfig/psci.pc lib/aarch64/pkgconfig/psci{,-strict-align}.pc \
             share/man/man1/psci.1 share/bash-completion/completions/psci include/psci{,_ctl,_heap}.h \
             share/zsh/site-functions/_psci share/fish/vendor_completions.d/psci.fish \
-            share/doc/gumdarts/{FORMATS,PORTING,REFERENCE,BOARDS,CHANGELOG}.md examples/host/{README,loop.c,pool.c,pool.h}
+            share/doc/gumdarts/{FORMATS,PORTING,REFERENCE,BOARDS,CHANGELOG}.md examples/host/{README,loop.c,player.c,player.h,pool.c,pool.h}
         git ls-files examples | grep -E '^examples/[^/]*\.(psci|out)$|^examples/boards/.*\.(machine|calls|answers)$'
     } | LC_ALL=C sort > "$work/lines"
     answers "the files of the archive"
@@ -49,7 +49,7 @@ released_by_pkg_config() {
     command -v pkg-config > /dev/null || { skip "the archive by pkg-config" pkg-config; return; }
     words=$(PKG_CONFIG_PATH=$1/lib/x86_64/pkgconfig pkg-config --cflags --libs "psci >= 1.0.0")
     # shellcheck disable=SC2086
-    if cc "$1"/examples/host/{loop,pool}.c $words -o "$work/loop" 2> "$work/err"; then pass; else
+    if cc "$1"/examples/host/{loop,player,pool}.c $words -o "$work/loop" 2> "$work/err"; then pass; else
         fail "the archive by pkg-config: $(head -n 1 "$work/err")"
     fi
     "$work/loop" examples/lost-message.psci > "$work/out"
@@ -104,7 +104,7 @@ installed() {
         psci --version | grep -qF " $(dpkg-query -f "\${Version}" -W gumdarts)"
         for script in /usr/share/doc/gumdarts/examples/*.psci; do psci replay < "$script" | cmp - "${script%.psci}.out"; done
         cd /usr/share/doc/gumdarts/examples
-        cc host/loop.c host/pool.c -lpsci_ffi -o /opt/loop
+        cc host/loop.c host/player.c host/pool.c -lpsci_ffi -o /opt/loop
         /opt/loop lost-message.psci | cmp - lost-message.out
         for file in man/man1/psci.1 bash-completion/completions/psci doc/gumdarts/copyright; do [ -s "/usr/share/$file" ]; done
         [ -s /usr/lib/aarch64-linux-gnu/libpsci_ffi.a ]

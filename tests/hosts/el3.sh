@@ -140,7 +140,7 @@ el3_faults() {
     for file in hosts/el3/faults/*.patch; do
         rm -rf "$copy"
         cp -r hosts/el3 "$copy"
-        if patch -s -d "$copy" -p1 < "$file" && ! diff -rq hosts/el3 "$copy" > "$work/out" &&
+        if patch -s -F0 -d "$copy" -p1 < "$file" && ! diff -rq hosts/el3 "$copy" > "$work/out" &&
             compiles "$copy"; then pass; else fail "$file"; fi
     done
 }
@@ -162,13 +162,27 @@ el3_says() {
     fi
 }
 
-# what is missing, and what there is not
+# what is missing, and what there is not; when a key is pressed, and a run ended
 el3_words() {
     local tool
     mkdir -p "$work/few"
     for tool in bash dirname env; do ln -sf "$(command -v $tool)" "$work/few/$tool"; done
     el3_says "run: missing qemu-system-aarch64 aarch64-linux-gnu-gcc make dtc python3 apt-get" each
     el3_says "run: unknown option --fast; see --help" --fast
+    has_python "hosts/el3/press" || return
+    if tests/hosts/pressed > "$work/out" 2>&1; then pass; else fail tests/hosts/pressed; cat "$work/out"; fi
+    misses_press 's/ALIKE = 1, 3/ALIKE = 1, 2/'
+    misses_press 's/ if levels == .* else \[\]$//'
+    misses_press 's/ if at in self.looks else \[\]//'
+    misses_press 's/self.rest + self.file/self.file/'
+}
+
+# misses_press EDIT: what is pressed by hosts/el3/press that is changed so is told
+misses_press() {
+    sed "$1" hosts/el3/press > "$work/press"
+    if cmp -s hosts/el3/press "$work/press" || tests/hosts/pressed "$work/press" > "$work/out" 2>&1; then
+        fail "tests/hosts/pressed lets this through: $1"
+    else pass; fi
 }
 
 # can_boot: whether there is what a machine at EL3 wants: tools, a built archive, and what was downloaded before
@@ -288,7 +302,7 @@ live_slow() {
 # a processor with SVE, which EL3 does not let through: its first use is told, once, and Linux goes no further
 live_shut() {
     say "Linux at EL3: the fault shut-features"
-    if EL3_OUT=$work/el3-shut hosts/el3/run --cpu max --seconds $((30 + 2 * took)) --fault shut-features > "$work/out" 2>&1; then
+    if EL3_OUT=$work/el3-shut hosts/el3/run --cpu max --seconds "$patience" --fault shut-features > "$work/out" 2>&1; then
         fail "hosts/el3/run --cpu max --fault shut-features ends well"
     elif [ "$(grep -c "exception 8, esr 0x66000000" "$work/out")" = 1 ]; then pass; else
         fail "hosts/el3/run --cpu max --fault shut-features does not tell one exception"

@@ -536,9 +536,10 @@ c_rules() {
 c_hosts() {
     local file name rest=" exec 0x40000000-0x40100000 boot 0x40000000 starts 9 lives 3"
     has_cc "the hosts in C" || return
-    for name in loop ctl_loop boot stop size; do
+    for name in ctl_loop boot stop size; do
         build_c "$name" "hosts/$name.c" || return
     done
+    build_c loop hosts/loop.c hosts/player.c || return
     for file in $(faultless); do
         answered "$file" "$work/loop" "$file" "$work/read"
         read_as_by_the_model "$file"
@@ -563,17 +564,17 @@ c_hosts() {
 c_machines() {
     local edit
     has_cc "machines in C" && has_python "machines in C" || return
-    build_c named hosts/named.c hosts/words.c || return
+    build_c named hosts/named.c hosts/player.c hosts/words.c || return
     if tests/hosts/machine-library "$work/named" "$work" > "$work/out" 2>&1; then pass; else
         fail "tests/hosts/machine-library"
         head -n 5 "$work/out"
     fi
     for edit in 's/psci_open_machine(&place, &words.board, .*;/psci_open_board(\&place, \&words.board);/' \
         's/&words.machine, words.boot)/\&words.machine, words.machine.mpidrs[0])/' \
-        's/psci_mpidr_of(&place, it.core)/(uint64_t)it.core/' 's/asked->states\[level\]/asked->states[0]/'; do
+        's/psci_mpidr_of(&place, core))/(uint64_t)core)/' 's/asked->states\[level\]/asked->states[0]/'; do
         sed "$edit" hosts/named.c > "$work/unheeded.c"
-        if ! cc -std=c11 -O2 -w -Iinclude -Ihosts -o "$work/unheeded" "$work/unheeded.c" hosts/words.c \
-            hosts/pool.c "$archive" > "$work/err" 2>&1; then
+        if ! cc -std=c11 -O2 -w -Iinclude -Ihosts -o "$work/unheeded" "$work/unheeded.c" hosts/player.c \
+            hosts/words.c hosts/pool.c "$archive" > "$work/err" 2>&1; then
             fail "hosts/named.c by $edit"
         elif tests/hosts/machine-library "$work/unheeded" "$work" > "$work/out" 2>&1; then
             fail "hosts/named.c is not seen to be wrong by $edit"
@@ -590,10 +591,11 @@ c_aarch64() {
         command -v "$tool" > /dev/null || { skip "the C library on aarch64" "$tool"; return; }
     done
     for file in "$plain" "$aligned"; do
-        for name in tests/hosts/programs/library tests/hosts/programs/controller hosts/loop; do
-            aarch64-linux-gnu-gcc -std=c11 -O2 -static -pthread -Wall -Wextra -Werror -Iinclude \
-                -Ihosts -o "$work/${name##*/}-aarch64" "$name.c" hosts/pool.c "$file" \
-                > "$work/err" 2>&1 || { fail "$name.c over $file"; head -n 20 "$work/err"; return; }
+        for name in tests/hosts/programs/library tests/hosts/programs/controller "hosts/loop hosts/player"; do
+            # shellcheck disable=SC2086
+            aarch64-linux-gnu-gcc -std=c11 -O2 -static -pthread -Wall -Wextra -Werror -Iinclude -Ihosts \
+                -o "$work/$(basename "${name%% *}")-aarch64" ${name// /.c }.c hosts/pool.c "$file" \
+                > "$work/err" 2>&1 || { fail "$name over $file"; head -n 20 "$work/err"; return; }
         done
         tested qemu-aarch64-static "$work/library-aarch64"
         tested qemu-aarch64-static "$work/controller-aarch64"

@@ -22,7 +22,7 @@ kvm_faults() {
         teller=$(sed -n "s/^$name|\([^|]*\)|.*/\1/p" tests/hosts/kvm-faults.txt)
         rm -rf "$copy"
         cp -r hosts/kvm "$copy"
-        if patch -s -d "$copy" -p1 < "$file" && grep -q "^| \`$name\`: .* | .*${teller:-nobody}" hosts/kvm/README.md
+        if patch -s -F0 -d "$copy" -p1 < "$file" && grep -q "^| \`$name\`: .* | .*${teller:-nobody}" hosts/kvm/README.md
         then pass; else fail "$file"; fi
     done
     while IFS='|' read -r name _; do

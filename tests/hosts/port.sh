@@ -177,7 +177,7 @@ listed() {
 
 # on the emulated machine: the port as it is, and the faults of which its own C says nothing
 port_lists() {
-    local tool name check _ text begun=$SECONDS most
+    local tool name check _ text begun took most
     for tool in qemu-system-aarch64 aarch64-linux-gnu-gcc dtc make; do
         command -v "$tool" > /dev/null || { skip "lists at EL3" "$tool"; return; }
     done
@@ -190,11 +190,12 @@ port_lists() {
             head -n 5 "$work/out"
         fi
     done
-    # some faults end by their time alone, which is more than the port took without one
-    most=$((100 + 3 * (SECONDS - begun)))
+    took=$((SECONDS - begun))
     while IFS='|' read -r name check _ text; do
         [ "$check" = lists ] || continue
         say "lists at EL3: the fault $name"
+        # a hang gets more time than the port took; an exception ends a run
+        if [ "$text" = "did not end" ]; then most=$((30 + 2 * took)); else most=$patience; fi
         if listed "$name" "$most"; then fail "$name is not seen by lists"
         elif grep -q -- "$text" "$work/out"; then pass; else
             fail "$name is seen by lists, which do not say '$text'"

@@ -19,7 +19,7 @@ tfa_faults() {
     for file in hosts/tfa/faults/*.patch; do
         rm -rf "$copy"
         cp -r hosts/tfa "$copy"
-        if patch -s -d "$copy" -p1 < "$file" && ! diff -rq hosts/tfa "$copy" > "$work/out"; then pass; else
+        if patch -s -F0 -d "$copy" -p1 < "$file" && ! diff -rq hosts/tfa "$copy" > "$work/out"; then pass; else
             fail "$file"
         fi
     done
@@ -37,7 +37,7 @@ downs_fail() {
     local copy=$work/tfa-copy
     rm -rf "$copy"
     cp -r hosts/tfa "$copy"
-    patch -s -d "$copy" -p1 < "hosts/tfa/faults/$1.patch"
+    patch -s -F0 -d "$copy" -p1 < "hosts/tfa/faults/$1.patch"
     if ! downs_of "$copy" && grep -q "$2" "$work/out"; then pass; else
         fail "hosts/tfa/downs.c with the fault $1"
         head -n 5 "$work/out"

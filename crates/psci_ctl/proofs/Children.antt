@@ -1,52 +1,61 @@
--- The children of a domain, one after another.
-use Rattle.std.proofs.Common.{◌≡◌, ℕ, zero, suc, ◌+◌, ◌-◌, ◌<◌, ◌≤◌, Bool, true, false, cond, ◌&&◌}
-use Rattle.std.proofs.Common.{refl, ap, sym, ◌∙◌, arith, subst, Some, None}
+-- The children of a domain, which stand side by side.
+use Rattle.std.proofs.Common.{◌≡◌, ℕ, zero, suc, ◌+◌, ◌-◌, ◌<◌, ◌≤◌, ◌&&◌, List, length, take, drop}
+use Rattle.std.proofs.Common.{get_or, refl, ap, sym, ◌∙◌, subst, arith, Some, []}
 use Rattle.std.specs.Prelude.{nat_le}
 use Rattle.std.specs.List.{list_all, range_with_len}
-use Rattle.std.proofs.lemmas.Bool.{le-leb, lt-leb, lt-ltb}
-use Rattle.std.proofs.lemmas.List.FromFn.{get_or-range_with_len, length-range_with_len}
-use Rattle.std.proofs.lemmas.List.Folds.{list_all_at}
-use Rattle.std.proofs.lemmas.Option.{same_Some}
+use Rattle.std.proofs.lemmas.List.{drop_more}
+use Rattle.std.proofs.lemmas.Bool.{ltb-true}
+use Rattle.std.proofs.lemmas.Option.{cond_some}
 use Rattle.psci_board.specs.declared.node.Node.{Node}
-use Rattle.psci_board.specs.Board.{BoardValue, child, children, first_child}
-use Rattle.psci_ctl_spec.specs.Parts.{is_covered}
+use Rattle.psci_board.specs.Board.{BoardValue, HasNode, child, children, children_at, first_child}
+use Rattle.psci_board.specs.Board.{height, nodes}
+use Rattle.psci_board.specs.Laws.{ChildLaws}
+use Rattle.psci_ctl.specs.declared.level.DomainRow.{DomainRow}
+use Rattle.psci_ctl.specs.Rows.{HasRows, off_domain}
 
-all_from : (p : ℕ → Bool) (a n : ℕ) → ((i : ℕ) → i < n → p (a + i) ≡ true)
-    → list_all p (range_with_len a n) ≡ true
-all_from p a zero h = refl
-all_from p a (suc n) h =
-    ap (λ t. t && list_all p (range_with_len (a + 1) n))
-    (subst (λ m. p m ≡ true) (omega arith) (h 0 (omega arith)))
-    ∙ all_from p (a + 1) n (λ i q. subst (λ m. p m ≡ true) (omega arith) (h (suc i) (omega arith)))
+-- rows that stand side by side are deep where those of their places are
+pub all_rows : (rows : List DomainRow) (least a n : ℕ) → a + n ≤ length rows
+    → list_all (λ (r : DomainRow). nat_le least r.depth) (take n (drop a rows))
+    ≡ list_all (λ p. nat_le least (get_or rows p off_domain).depth) (range_with_len a n)
+all_rows rows least a zero h = refl
+all_rows rows least a (suc n) h =
+    ap (λ (ds : List DomainRow). list_all (λ (r : DomainRow). nat_le least r.depth)
+    (take (suc n) ds)) (drop_more rows a off_domain (omega (arith, h)))
+    ∙ ap (λ t. nat_le least (get_or rows a off_domain).depth && t)
+    (all_rows rows least (a + 1) n (omega (arith, h)))
 
--- the child of a number that there is
-child_is : (b : BoardValue) (n m : Node) (k : ℕ) → k < children b n → child b n k ≡ Some m
-    → m ≡ record { level = n.level - 1; place = first_child b n.level n.place + k }
-child_is b n m k h e =
-    sym (same_Some _ m (sym (ap (λ t. cond t (Some (record {
-      level = n.level - 1;
-      place = first_child b n.level n.place + k;
-    })) None) (lt-ltb k (children b n) h)) ∙ e))
+abbrev at_place : ℕ → ℕ → Node
+at_place level place = record { level = level; place = place }
 
--- each child is as deep
-pub covered : (b : BoardValue) (depth : ℕ → ℕ → ℕ) (n : Node) (least : ℕ)
-    → ((k : ℕ) → k < children b n
-    → least ≤ depth (n.level - 1) (first_child b n.level n.place + k))
-    → is_covered b depth n least ≡ true
-covered b depth n least h =
-    all_from (λ p. nat_le least (depth (n.level - 1) p)) (first_child b n.level n.place)
-    (children b n) (λ k q. le-leb _ _ (h k q))
+-- the first child, where there is one
+pub first_is : (b : BoardValue) (n m : Node) → child b n 0 ≡ Some m → (0 < children b n)
+    × (m ≡ record { level = n.level - 1; place = first_child b n.level n.place })
+first_is b n m e =
+    let is = cond_some _ _ _ e in
+    let first : ℕ = first_child b n.level n.place in
+    let place : first + 0 ≡ first = omega arith in (
+      ltb-true _ _ is.0,
+      sym is.1 ∙ ap (at_place (n.level - 1)) place,
+    )
 
--- one child is not
-pub not_covered : (b : BoardValue) (depth : ℕ → ℕ → ℕ) (n m : Node) (k least : ℕ)
-    → k < children b n → child b n k ≡ Some m → depth m.level m.place < least
-    → is_covered b depth n least ≡ false
-not_covered b depth n m k least h e low =
-    let a : ℕ = first_child b n.level n.place in
-    let is = child_is b n m k h e in
-    let low_here : depth (n.level - 1) (a + k) < least =
-    subst (λ (x : Node). depth x.level x.place < least) is low in
-    list_all_at (λ p. nat_le least (depth (n.level - 1) p)) (range_with_len a (children b n)) k 0
-    (omega (arith, length-range_with_len a (children b n)))
-    (ap (λ p. nat_le least (depth (n.level - 1) p)) (get_or-range_with_len a (children b n) k 0 h)
-    ∙ lt-leb least (depth (n.level - 1) (a + k)) low_here)
+-- the rows of its children are there
+pub rows_fit : {b : BoardValue} {levels : List (List DomainRow)} (n m : Node) → ChildLaws b
+    → HasNode b n → HasRows b levels → child b n 0 ≡ Some m
+    → m.place + children b n ≤ length (get_or levels m.level [])
+rows_fit {b} {levels} n m laws node shape e =
+    let is = first_is b n m e in
+    let up : suc m.level ≡ n.level = omega (arith, laws.child_level n m 0 e) in
+    let low : m.level < height b = omega (arith, up, node.level) in
+    let some : 0 < children_at b (suc m.level) n.place =
+    subst (λ l. 0 < children_at b l n.place) (sym up) is.0 in
+    let last : first_child b n.level n.place + (children b n - 1) < nodes b m.level =
+    subst (λ l. first_child b l n.place + (children_at b l n.place - 1) < nodes b m.level) up
+    (laws.inside m.level n.place (children_at b (suc m.level) n.place - 1) low
+    (omega (arith, some))) in
+    omega (
+      arith,
+      is.0,
+      last,
+      ap (λ (x : Node). x.place) is.1,
+      shape.places m.level (omega (arith, low)),
+    )

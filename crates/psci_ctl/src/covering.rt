@@ -1,23 +1,25 @@
 //! Whether the domains below a domain are deep enough.
 
 ghost use Rattle.std.specs.Prelude.{◌≡◌};
+ghost use Rattle.psci_board.specs.Board.{HasNode};
 ghost use Rattle.psci_ctl_spec.specs.Parts.{is_covered};
-ghost use Rattle.psci_ctl.specs.Rows.{depth_in};
+ghost use Rattle.psci_ctl.specs.Rows.{depth_in, HasRows};
 
-use crate::domains::domain;
 use crate::level::Level;
-use psci_board::{Board, Node};
+use psci_board::{Board, Node, law_children};
 
-/// Whether every child of a domain is at least as deep as this. It takes one step for each child.
+/// Whether every child of a domain is at least as deep as this. It reads the depth of each child,
+/// where they stand side by side.
 pub fn is_covered(levels: &[Level], board: &Board, node: Node, depth: u8) -> bool
+    requires node { HasNode board.now node }
+    requires shape { HasRows board.now levels.now }
     ensures { result ≡ is_covered board.now (depth_in levels.now) node depth }
 {
-    for number in 0..board.children(node) {
-        if let Some(child) = board.child(node, number) {
-            if domain(levels, child).depth < depth {
-                return false;
-            }
-        }
-    }
-    true
+    law_children();
+    let height = board.height();
+    prove!(node.level <= height);
+    let Some(first) = board.child(node, 0) else {
+        return true;
+    };
+    levels[first.level as usize].are_deep(first.place, board.children(node), depth)
 }

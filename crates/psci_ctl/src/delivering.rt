@@ -2,7 +2,7 @@
 
 ghost use Rattle.std.specs.Prelude.{◌≡◌, ◌≤◌, ◌+◌, ◌<◌, ◌==◌, ℕ, true, Some, take, length};
 ghost use Rattle.std.specs.Prelude.{if◌then◌else◌, nat_lt};
-ghost use Rattle.psci_board.specs.Board.{cores, domain_of, height, nodes, HasNode};
+ghost use Rattle.psci_board.specs.Board.{cores, domain_of, height, nodes, path, HasNode};
 ghost use Rattle.psci_messages.specs.Message.{PartByPart, AreClaims, most_applied};
 ghost use Rattle.psci_ctl_spec.specs.Changes.{change, with_start};
 ghost use Rattle.psci_ctl_spec.specs.Effects.{Begins, Ends, message_effect};
@@ -78,9 +78,10 @@ impl Controller {
         Done::WHOLE
     }
 
-    /// The domain of a core at this level.
-    fn domain_on_path(&self, core: Core, level: u32) -> Node
+    /// The domain of a core at this level, of those on its path.
+    fn domain_on_path(&self, core: Core, on_path: &[Node], level: u32) -> Node
         requires core { core.number < cores self.now.board }
+        requires path { on_path.now ≡ path self.now.board core.number }
         requires level { level ≤ height self.now.board }
         ensures domain { result ≡ domain_of self.now.board core.number level }
         ensures inside { result.place < nodes self.now.board result.level }
@@ -88,8 +89,8 @@ impl Controller {
         law_paths();
         let height = self.board.height();
         prove!(level <= height);
-        let path = self.board.path(core);
-        path[level as usize]
+        let _core = core;
+        on_path[level as usize]
     }
 
     /// Whether a part's generation counts every start below its domain.
@@ -104,6 +105,7 @@ impl Controller {
 
     /// Whether every child of this domain is at least as deep as the part asks.
     fn is_covered(&self, node: Node, part: &Part) -> bool
+        requires { HasNode self.now.board node }
         ensures { result ≡ is_covered self.now.board (seen self.now).depth node part.now.depth }
     {
         is_covered(&self.domains, &self.board, node, part.depth)
@@ -139,9 +141,11 @@ impl Controller {
               (seen self.old).depth;
         }) }
     {
+        let path = self.board.path(core);
+        let on_path = path.as_slice();
         let mut applied: u8 = 0;
         for part in parts {
-            let node = self.domain_on_path(core, part.level);
+            let node = self.domain_on_path(core, on_path, part.level);
             if !self.is_live(node, part) {
                 return Done::of(applied, true);
             }

@@ -37,7 +37,9 @@ impl Model for Level {
     ghost view = { λ l. l.rows.items };
 }
 
-ghost use Rattle.std.specs.Prelude.{◌≡◌, ◌<◌, length, replicate, slice_index_or, slice_set, IfOk};
+ghost use Rattle.std.specs.Prelude.{◌≡◌, ◌<◌, ◌≤◌, ◌+◌, nat_le, length, take, drop, replicate};
+ghost use Rattle.std.specs.Prelude.{slice_index_or, slice_set, IfOk};
+ghost use Rattle.std.specs.List.{list_all};
 ghost use Rattle.psci_ctl.specs.Rows.{off_domain};
 
 impl Level {
@@ -60,6 +62,17 @@ impl Level {
             .get(place as usize)
             .copied()
             .unwrap_or(DomainRow::OFF)
+    }
+
+    /// Whether the domains from `first` on, so many, are each at least as deep as this.
+    pub fn are_deep(&self, first: u16, count: u32, depth: u8) -> bool
+        requires { first + count ≤ length self.now }
+        ensures { result ≡ list_all (λ row. nat_le depth row.depth)
+            (take count (drop first self.now)) }
+    {
+        let first = first as usize;
+        let rows = &self.rows[first..first + count as usize];
+        rows.iter().all(|row| row.depth >= depth)
     }
 
     /// Keeps this of the domain at `place`.

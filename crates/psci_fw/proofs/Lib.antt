@@ -1,7 +1,5 @@
 mod Answered
-mod AskingRows
 mod Called
-mod Carried
 mod Fresh
 mod Refused
 mod ReactionRows

@@ -1,27 +1,16 @@
 -- Worked examples of what is read of a firmware, of the way on of a core that enters, and of what a
 -- suspended core leaves.
 use Rattle.std.proofs.Common.{◌≡◌, ℕ, ◌<◌, [], ◌∷◌, map, true, false, None, Some, refl, ap, arith}
-use Rattle.std.proofs.Common.{sym, Bool, Option, ◌==◌, pos}
-use Rattle.std.specs.Ordering.{int_eq}
+use Rattle.std.proofs.Common.{Option, ◌==◌}
 use Rattle.std.specs.Prelude.{if◌then◌else◌}
-use Rattle.psci_abi.specs.declared.code.Code.{Code}
-use Rattle.psci_abi.specs.declared.registers.Regs.{Regs}
 use Rattle.psci_board.specs.Board.{up}
 use Rattle.psci_board.specs.declared.node.Node.{Node}
 use Rattle.psci_board.proofs.Tables.{◌⇒◌, Gives}
 use Rattle.psci_state.specs.declared.cores.Activity.TheVariants as activities
-use Rattle.psci_fw_spec.specs.declared.fault.FwFault.TheVariants as faults
 use Rattle.psci_fw_spec.specs.declared.hw.Hw.TheVariants as hardware
 use Rattle.psci_fw_spec.specs.declared.mode.SuspendMode.TheVariants.{OsInitiated, Platform}
-use Rattle.psci_fw_spec.specs.declared.outcome.Act.{Act}
 use Rattle.psci_fw_spec.specs.declared.outcome.Act.TheVariants as acts
-use Rattle.psci_fw_spec.specs.declared.reply.FwReply.{FwReply}
-use Rattle.psci_fw_spec.specs.declared.reply.FwReply.TheVariants as replies
 use Rattle.psci_fw_spec.specs.declared.status.Status.TheVariants as statuses
-use Rattle.psci_fw_spec.specs.After.{after}
-use Rattle.psci_fw_spec.specs.Answer.{answer}
-use Rattle.psci_fw_spec.specs.Calls.{outcome_of}
-use Rattle.psci_fw_spec.specs.Outcomes.{executes_on, returns}
 use Rattle.psci_fw_spec.specs.AffinityInfo.{node_status}
 use Rattle.psci_fw_spec.specs.Lives.{start_of_life}
 use Rattle.psci_fw_spec.specs.Phases as phases
@@ -32,13 +21,12 @@ use Rattle.psci_messages.specs.declared.start.Start.{Start}
 use Rattle.psci_messages.specs.Message.{MessageValue}
 use Rattle.psci_messages.specs.Slots.Slot.{OfCore}
 use Rattle.psci_fw_state.specs.Seen.{values_in}
-use Rattle.psci_fw.specs.Calls.{IsReturned, MayCall}
+use Rattle.psci_fw.specs.Calls.{MayCall}
 use Rattle.psci_fw.specs.Halts.{IsOfSystem}
 use Rattle.psci_fw.specs.Seen.{FirmwareValue, IsFresh, hw_shown, life_shown, status_shown}
 use Rattle.psci_fw.specs.Suspending.{left_by_suspend}
 use Rattle.psci_fw.specs.Ways.{way_by, way_on}
 use Rattle.psci_fw_state.proofs.KeptRows.{board}
-use Rattle.psci_fw.proofs.Answered.{goes_on}
 
 -- in this life core 0 runs, core 1 is asked on, and the second cluster is in standby
 abbrev firmware : ℕ → FirmwareValue
@@ -194,48 +182,6 @@ core_beside_the_board_calls h = let e : 4 < 4 = h.inside in omega arith
 halting_life_is_called : MayCall (record (firmware 2) { halting = true }) 0 → ⊥
 unfolding values_in
 halting_life_is_called h = let e : true ≡ false = h.awake in absurd (cc)
-
--- Answers -----------------------------------------------------------------------------------------
-
-abbrev regs : ℕ → ℕ → Regs
-regs word first = record { x0 = word; x1 = first; x2 = 0; x3 = 0 }
-
-abbrev code : ℕ → Code
-code n = record { 0 = pos n }
-
--- core 0 asks for the version
-version_returned : IsReturned (firmware 2) 0 (regs 0x84000000 0) (code 0x10001)
-unfolding answer after outcome_of values_in
-version_returned = record { answer = refl; after = sym (goes_on (values_in (firmware 2)) 0 refl) }
-
--- not another code, and nothing in a halting life or to a core that is off
-other_code_returned : IsReturned (firmware 2) 0 (regs 0x84000000 0) (code 2) → ⊥
-unfolding answer outcome_of values_in
-other_code_returned h = let e : false ≡ true = ap tells_two h.answer in absurd (cc)
-  where
-    is_two : Act → Bool
-    is_two (acts.Return c) = int_eq c.0 (pos 2)
-    is_two act = false
-
-    tells_two : FwReply → Bool
-    tells_two (replies.Out o) = is_two o.act
-    tells_two reply = false
-
-halting_life_returned : IsReturned (record (firmware 2) { halting = true }) 0
-    (regs 0x84000000 0) (code 0x10001) → ⊥
-unfolding answer outcome_of values_in
-halting_life_returned h = let e : false ≡ true = ap goes_on_then h.answer in absurd (cc)
-  where
-    goes_on_then : FwReply → Bool
-    goes_on_then (replies.Out o) = executes_on o.act
-    goes_on_then reply = false
-
-off_core_returned : IsReturned (firmware 2) 3 (regs 0x84000000 0) (code 0x10001) → ⊥
-unfolding answer values_in
-off_core_returned h =
-    let e : ◌≡◌ {A = FwReply} (replies.Fault faults.NotRunning)
-    (replies.Out (returns (code 0x10001))) = h.answer in
-    absurd (cc)
 
 -- Messages for the system -------------------------------------------------------------------------
 

@@ -1,22 +1,15 @@
 -- How a running core is answered.
 use Rattle.std.specs.Prelude.{◌≡◌, ◌<◌, ℕ, false}
-use Rattle.psci_abi.specs.declared.code.Code.{Code}
-use Rattle.psci_abi.specs.declared.registers.Regs.{Regs}
 use Rattle.psci_abi.specs.declared.request.Request.{Request}
 use Rattle.psci_board.specs.Board.{BoardValue, IsBoard, cores}
-use Rattle.psci_fw_spec.specs.declared.call.FwCall.TheVariants.{Smc}
 use Rattle.psci_fw_spec.specs.declared.outcome.Outcome.{Outcome}
-use Rattle.psci_fw_spec.specs.declared.reply.FwReply.TheVariants.{Out}
-use Rattle.psci_fw_spec.specs.After.{after, change}
-use Rattle.psci_fw_spec.specs.Answer.{answer}
+use Rattle.psci_fw_spec.specs.After.{change}
 use Rattle.psci_fw_spec.specs.Calls.{function_outcome}
 use Rattle.psci_fw_spec.specs.Effects.{function_effect}
 use Rattle.psci_fw_spec.specs.Invariant.{AreValues}
-use Rattle.psci_fw_spec.specs.Outcomes.{returns}
 use Rattle.psci_fw_spec.specs.Phases.{Running}
 use Rattle.psci_fw_spec.specs.Values.{Values}
 use Rattle.psci_fw_state.specs.Seen.{StateValue, values_in}
-use Rattle.psci_fw.specs.Seen.{FirmwareValue, seen}
 
 -- a core calls: it is running, in a state such as a firmware keeps
 pub record IsCaller (s : StateValue) (core : ℕ) : Type 0 where
@@ -39,8 +32,3 @@ pub record FunctionAnswered (b : BoardValue) (v : Values) (c : ℕ) (r : Request
     : Type 0 where
   pub answer : o ≡ function_outcome b v c r
   pub after : w ≡ change b (function_effect b c r o.act o.message) v
-
--- a call of these registers is answered this code, sends nothing and leaves all as it is
-pub record IsReturned (f : FirmwareValue) (c : ℕ) (regs : Regs) (code : Code) : Type 0 where
-  pub answer : answer f.board (seen f) c (Smc regs) ≡ Out (returns code)
-  pub after : after f.board c (Smc regs) (Out (returns code)) (seen f) ≡ seen f

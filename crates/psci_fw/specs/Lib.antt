@@ -1,8 +1,6 @@
-pub mod Asking
 pub mod Calls
 pub mod Halts
 pub mod Reactions
-pub mod Read
 pub mod Seen
 pub mod Suspending
 pub mod Ways

@@ -8,11 +8,9 @@
 #![tactic(auto)]
 
 mod affinity;
-mod asking;
 mod entering;
 mod firmware;
 mod hw;
-mod in_slot;
 mod laws;
 mod mode;
 mod off;
@@ -23,7 +21,6 @@ mod suspend;
 mod system;
 
 pub use firmware::Firmware;
-pub use in_slot::law_no_power_state;
 pub use psci_abi::{Code, Regs};
 pub use psci_board::law_sizes;
 pub use psci_fw_spec::{

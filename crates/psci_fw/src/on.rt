@@ -1,8 +1,8 @@
 //! CPU_ON.
 
-ghost use Rattle.std.specs.Prelude.{◌≡◌, ◌<◌, IfOk, Some};
+ghost use Rattle.std.specs.Prelude.{◌≡◌, ◌<◌, IfOk};
 ghost use Rattle.psci_abi.specs.declared.request.Request.TheVariants.{CpuOn};
-ghost use Rattle.psci_board.specs.Board.{core_of, cores};
+ghost use Rattle.psci_board.specs.Board.{cores};
 ghost use Rattle.psci_fw_spec.specs.CpuOn.{target_of};
 ghost use Rattle.psci_fw.specs.Calls.{FunctionAnswered, MayCall};
 ghost use Rattle.psci_fw.specs.Reactions.{IsReaction, outcome_in};
@@ -16,7 +16,6 @@ use psci_fw_state::State;
 use psci_messages::{Kind, Parts};
 
 /// CPU_ON (DEN0022D): the core that `target` names is to be started, and will go on at the opening.
-#[tactic(auto, unfolding(psci_fw_spec::specs::CpuOn::target_of))]
 pub fn cpu_on(state: &mut State, caller: Core, target: u64, opening: Opening) -> Reaction
     requires { MayCall state.old caller.number }
     ensures answer { FunctionAnswered state.old.board (values_in state.old) caller.number
@@ -24,26 +23,8 @@ pub fn cpu_on(state: &mut State, caller: Core, target: u64, opening: Opening) ->
         (outcome_in state.new.board (values_in state.new) result) (values_in state.new) }
     ensures reaction { IsReaction state.old state.new result }
 {
-    let Some(core) = state.board().core_of(target) else {
-        return Reaction::returns(Code::INVALID_PARAMETERS);
-    };
-    start(state, caller, target, core, opening)
-}
-
-/// The same, where the core is known that `target` names. Compiled into its callers, so that it has
-/// no frame of its own.
-#[inline(always)]
-pub fn start(state: &mut State, caller: Core, target: u64, core: Core, opening: Opening) -> Reaction
-    requires call { MayCall state.old caller.number }
-    requires target { core_of state.old.board target ≡ Some core }
-    requires inside { core.number < cores state.old.board }
-    ensures answer { FunctionAnswered state.old.board (values_in state.old) caller.number
-        (CpuOn target opening.address opening.context)
-        (outcome_in state.new.board (values_in state.new) result) (values_in state.new) }
-    ensures reaction { IsReaction state.old state.new result }
-{
     let _caller = caller;
-    let core = match check_target(state, target, core, opening.address) {
+    let core = match check_target(state, target, opening.address) {
         Ok(core) => core,
         Err(code) => return Reaction::returns(code),
     };
@@ -55,18 +36,17 @@ pub fn start(state: &mut State, caller: Core, target: u64, core: Core, opening: 
     }
 }
 
-/// The core that a CPU_ON starts, by the core that `target` names, or the code of the first check
-/// that fails.
+/// The core that a CPU_ON starts, or the code of the first check that fails.
 #[inline(always)]
 #[tactic(auto, unfolding(psci_fw_spec::specs::CpuOn::target_of))]
-fn check_target(state: &State, target: u64, core: Core, entry_point: u64) -> Result<Core, Code>
-    requires named { core_of state.now.board target ≡ Some core }
-    requires inside { core.number < cores state.now.board }
+fn check_target(state: &State, target: u64, entry_point: u64) -> Result<Core, Code>
     ensures target { result ≡ target_of state.now.board (values_in state.now) target entry_point }
     ensures inside { IfOk result (λ core. core.number < cores state.now.board) }
 {
-    let _target = target;
     let board = state.board();
+    let Some(core) = board.core_of(target) else {
+        return Err(Code::INVALID_PARAMETERS);
+    };
     if !board.may_enter(entry_point) {
         return Err(Code::INVALID_ADDRESS);
     }

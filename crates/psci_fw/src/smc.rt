@@ -2,29 +2,25 @@
 
 ghost use Rattle.std.specs.Prelude.{◌≡◌};
 ghost use Rattle.psci_abi.specs.Calls.{features_of, request_of};
-ghost use Rattle.psci_fw_spec.specs.AffinityInfo.{affinity_info};
 ghost use Rattle.psci_fw_spec.specs.After.{change};
 ghost use Rattle.psci_fw_spec.specs.Calls.{outcome_of};
 ghost use Rattle.psci_fw_spec.specs.Effects.{function_effect};
-ghost use Rattle.psci_fw.specs.Asking.{code_asked};
 ghost use Rattle.psci_fw.specs.Calls.{FunctionAnswered, IsCaller, MayCall};
 ghost use Rattle.psci_fw.specs.Reactions.{IsReaction, outcome_in};
-ghost use Rattle.psci_fw.specs.Read.{IsOnOf, IsSuspendOf};
 ghost use Rattle.psci_fw_state.specs.Seen.{values_in};
 
 use crate::affinity::affinity_info;
 use crate::hw::node_hw_state;
 use crate::mode::set_suspend_mode;
 use crate::off::cpu_off;
-use crate::on::{cpu_on, start};
+use crate::on::cpu_on;
 use crate::reaction::Reaction;
-use crate::suspend::{cpu_suspend, suspend};
+use crate::suspend::cpu_suspend;
 use crate::system::{system_off, system_reset, system_reset2, system_suspend};
-use psci_abi::{Code, Regs, Request, features, low, read};
+use psci_abi::{Code, Regs, Request, features, read};
 use psci_board::{Board, Core};
 use psci_fw_spec::Opening;
 use psci_fw_state::State;
-use psci_state::Ask;
 
 /// PSCI 1.1: the major version in bits 31:16, the minor one in bits 15:0.
 const VERSION: Code = Code(0x0001_0001);
@@ -49,61 +45,6 @@ pub fn dispatch<A>(state: &mut State, caller: Core, regs: Regs) -> Reaction
         return Reaction::stops();
     }
     function::<A>(state, caller, read(regs))
-}
-
-/// What a core is answered that calls CPU_ON of this core.
-#[inline(always)]
-#[tactic(auto, unfolding(psci_fw_spec::specs::Calls::outcome_of))]
-pub fn turn_on(state: &mut State, caller: Core, regs: Regs, target: Core) -> Reaction
-    requires call { MayCall state.old caller.number }
-    requires on { IsOnOf state.old.board regs target }
-    ensures answer { outcome_in state.new.board (values_in state.new) result
-        ≡ outcome_of state.old.board (values_in state.old) caller.number (request_of regs) }
-    ensures reaction { IsReaction state.old state.new result }
-    ensures after { let outcome = outcome_in state.new.board (values_in state.new) result in
-        values_in state.new ≡ change state.old.board (function_effect state.old.board caller.number
-        (request_of regs) outcome.act outcome.message) (values_in state.old) }
-{
-    let opening = opening(regs.argument(regs.x2), regs.argument(regs.x3));
-    start(state, caller, regs.argument(regs.x1), target, opening)
-}
-
-/// What a core is answered that calls CPU_SUSPEND with this ask.
-#[inline(always)]
-#[tactic(auto, unfolding(psci_fw_spec::specs::Calls::outcome_of))]
-pub fn suspend_with(state: &mut State, caller: Core, regs: Regs, ask: Ask) -> Reaction
-    requires call { MayCall state.old caller.number }
-    requires suspend { IsSuspendOf state.old.board regs ask }
-    ensures answer { outcome_in state.new.board (values_in state.new) result
-        ≡ outcome_of state.old.board (values_in state.old) caller.number (request_of regs) }
-    ensures reaction { IsReaction state.old state.new result }
-    ensures after { let outcome = outcome_in state.new.board (values_in state.new) result in
-        values_in state.new ≡ change state.old.board (function_effect state.old.board caller.number
-        (request_of regs) outcome.act outcome.message) (values_in state.old) }
-{
-    let opening = opening(regs.argument(regs.x2), regs.argument(regs.x3));
-    suspend(state, caller, low(regs.argument(regs.x1)), ask, opening)
-}
-
-/// AFFINITY_INFO, with a frame of its own, so that what else is told at once has none.
-#[inline(never)]
-fn affinity_apart(state: &State, target: u64, level: u32) -> Code
-    ensures { result ≡ affinity_info state.now.board (values_in state.now) target level }
-{
-    affinity_info(state, target, level)
-}
-
-/// The code of a function that only asks something; None of another.
-#[inline(always)]
-pub fn code_at_once(state: &State, request: Request) -> Option<Code>
-    ensures { result ≡ code_asked state.now.board (values_in state.now) request }
-{
-    match request {
-        Request::Version => Some(VERSION),
-        Request::MigrateInfoType => Some(NO_MIGRATION),
-        Request::AffinityInfo { target, level } => Some(affinity_apart(state, target, level)),
-        _ => None,
-    }
 }
 
 /// What a function answers.

@@ -1,11 +1,11 @@
 //! CPU_SUSPEND.
 
-ghost use Rattle.std.specs.Prelude.{◌≡◌, ◌&&◌, not, Ok};
+ghost use Rattle.std.specs.Prelude.{◌≡◌, ◌&&◌, not};
 ghost use Rattle.psci_abi.specs.declared.request.Request.TheVariants.{CpuSuspend};
 ghost use Rattle.psci_board.specs.Board.{may_enter};
 ghost use Rattle.psci_state.specs.Ask.{is_deep};
 ghost use Rattle.psci_fw_spec.specs.Claims.{suspend_parts};
-ghost use Rattle.psci_fw_spec.specs.CpuSuspend.{ask_named, osi_code, suspend_answer};
+ghost use Rattle.psci_fw_spec.specs.CpuSuspend.{osi_code, suspend_answer};
 ghost use Rattle.psci_fw_spec.specs.Effects.{suspends};
 ghost use Rattle.psci_fw.specs.Calls.{FunctionAnswered, MayCall};
 ghost use Rattle.psci_fw.specs.Suspending.{MaySuspend, Suspends};
@@ -32,27 +32,11 @@ pub fn cpu_suspend(state: &mut State, caller: Core, word: u32, opening: Opening)
         (outcome_in state.new.board (values_in state.new) result) (values_in state.new) }
     ensures reaction { IsReaction state.old state.new result }
 {
+    law_may_claim();
     let board = state.board();
     let Ok(ask) = Ask::read(word, board.format(), board.height()) else {
         return Reaction::returns(Code::INVALID_PARAMETERS);
     };
-    suspend(state, caller, word, ask, opening)
-}
-
-/// The same, where the ask of the word is known. Compiled into its callers, so that it has no frame
-/// of its own.
-#[inline(always)]
-pub fn suspend(state: &mut State, caller: Core, word: u32, ask: Ask, opening: Opening) -> Reaction
-    requires call { MayCall state.old caller.number }
-    requires ask { ask_named state.old.board word ≡ Ok ask }
-    ensures answer { FunctionAnswered state.old.board (values_in state.old) caller.number
-        (CpuSuspend word opening.address opening.context)
-        (outcome_in state.new.board (values_in state.new) result) (values_in state.new) }
-    ensures reaction { IsReaction state.old state.new result }
-{
-    law_may_claim();
-    let _word = word;
-    let board = state.board();
     if has_invalid_entry(board, ask, opening.address) {
         return Reaction::returns(Code::INVALID_ADDRESS);
     }

@@ -11,7 +11,6 @@
 #![tactic(auto)]
 
 mod coding;
-mod in_slot;
 mod laws;
 mod poll;
 mod polled;

@@ -2,7 +2,7 @@
 
 use crate::seats::{Reader, StatusWords, Writer};
 use psci_board::{Board, Core, Memory};
-use psci_fw::{Code, Firmware, FwFault, Outcome, Reaction, Regs, Start, Taken, law_values};
+use psci_fw::{Firmware, FwFault, Outcome, Reaction, Regs, Start, Taken, law_values};
 use psci_fw_spec::law_caller;
 use psci_messages::Ack;
 use std::alloc::Global;
@@ -34,10 +34,8 @@ impl Model for PolledFirmware {
 }
 
 ghost use Rattle.std.specs.Prelude.{◌≡◌, ℕ, List, [], ◌∷◌, replicate, map};
-ghost use Rattle.std.specs.Prelude.{IfOk, IfSome, OnErr};
+ghost use Rattle.std.specs.Prelude.{IfOk, OnErr};
 ghost use Rattle.psci_board.specs.Board.{cores};
-ghost use Rattle.psci_fw.specs.Asking.{code_told, may_call};
-ghost use Rattle.psci_fw.specs.Calls.{IsReturned};
 ghost use Rattle.psci_fw.specs.Reactions.{IsInItsSlot, reply_in};
 ghost use Rattle.psci_fw.specs.Seen.{seen};
 ghost use Rattle.psci_fw_spec.specs.declared.call.FwCall.TheVariants as calls;
@@ -47,7 +45,7 @@ ghost use Rattle.psci_fw_spec.specs.Answer.{answer, reply_of};
 ghost use Rattle.psci_fw_spec.specs.Lives.{start_of_life};
 ghost use Rattle.psci_status.specs.Lists.{HasMet, newest};
 ghost use Rattle.psci_status.specs.Seats.{seen as seen_by, table, table_of_reader};
-ghost use Rattle.psci_status.specs.Polled.{IsNext, IsPast, IsWrittenFrom};
+ghost use Rattle.psci_status.specs.Polled.{IsNext, IsPast};
 
 use crate::laws::law_few_statuses;
 use crate::writing::{asked_in, life_of, write_changed, write_one};
@@ -114,24 +112,6 @@ impl PolledFirmware {
         let asked = asked_in(&reaction);
         write_one(words, writer, firmware, asked, *cores);
         Ok(reaction)
-    }
-
-    /// `Firmware::may_call`.
-    #[inline(always)]
-    pub fn may_call(&self, core: Core) -> bool
-        ensures { result ≡ may_call self.now.firmware core.number }
-    {
-        self.firmware.may_call(core)
-    }
-
-    /// `Firmware::code_at_once`: nothing changes, so nothing is written.
-    #[inline(always)]
-    pub fn code_at_once(&self, core: Core, regs: Regs) -> Option<Code>
-        ensures code { result ≡ code_told self.now.firmware core.number regs }
-        ensures returned { IfSome result (IsReturned self.now.firmware core.number regs) }
-        ensures written { IsWrittenFrom self.now self.now }
-    {
-        self.firmware.code_at_once(core, regs)
     }
 
     /// `Firmware::enter`, and what it changed is written.
@@ -228,14 +208,6 @@ impl PolledFirmware {
         ensures { result.now ≡ self.now.firmware }
     {
         &self.firmware
-    }
-
-    /// A call that changes nothing has nothing to write: of each core the last that was written is
-    /// its status.
-    pub fn law_still(&self)
-        ensures { IsWrittenFrom self.now self.now }
-    {
-        let _cores = self.cores;
     }
 
     /// There is a legal history that left the firmware's values, and what was written of each core
