@@ -1,6 +1,6 @@
 -- Worked examples of what is read of a firmware, of the way on of a core that enters, and of what a
 -- suspended core leaves.
-use Rattle.std.proofs.Common.{◌≡◌, ℕ, ◌<◌, [], ◌∷◌, map, true, false, None, Some, refl, ap, arith}
+use Rattle.std.proofs.Common.{◌≡◌, ℕ, ◌<◌, ◌≤◌, [], ◌∷◌, map, true, false, None, Some, refl, ap, arith}
 use Rattle.std.proofs.Common.{Option, ◌==◌}
 use Rattle.std.specs.Prelude.{if◌then◌else◌}
 use Rattle.psci_board.specs.Board.{up}
@@ -23,7 +23,8 @@ use Rattle.psci_messages.specs.Slots.Slot.{OfCore}
 use Rattle.psci_fw_state.specs.Seen.{values_in}
 use Rattle.psci_fw.specs.Calls.{MayCall}
 use Rattle.psci_fw.specs.Halts.{IsOfSystem}
-use Rattle.psci_fw.specs.Seen.{FirmwareValue, IsFresh, hw_shown, life_shown, status_shown}
+use Rattle.psci_fw.specs.Seen.{FirmwareValue, IsFirmware, IsFresh, hw_shown, life_shown}
+use Rattle.psci_fw.specs.Seen.{status_shown}
 use Rattle.psci_fw.specs.Suspending.{left_by_suspend}
 use Rattle.psci_fw.specs.Ways.{way_by, way_on}
 use Rattle.psci_fw_state.proofs.KeptRows.{board}
@@ -109,6 +110,20 @@ halting_before_a_life h =
 started_before_a_life : IsFresh board (record (start_of_life board 0) { known = λ c. 1 }) → ⊥
 started_before_a_life h =
     let e : ◌≡◌ {A = ℕ} 1 0 = ap (λ (x : Values). x.known 0) (h.same refl) in omega arith
+
+-- What holds of every firmware ------------------------------------------------------------------
+
+board_without_levels : IsFirmware (record (firmware 2) { board = record board { levels = [] } })
+    → ⊥
+board_without_levels h = let e : 0 < 0 = h.board.low in omega (arith, e)
+
+started_beyond_the_limit : IsFirmware (record (firmware 2) { board = record board { starts = 4 } })
+    → ⊥
+unfolding values_in
+started_beyond_the_limit h = let e : 5 ≤ 4 = h.values.known 3 in omega (arith, e)
+
+called_before_a_life : IsFirmware (firmware 0) → ⊥
+called_before_a_life h = values_before_a_life h.fresh
 
 -- Ways on -----------------------------------------------------------------------------------------
 

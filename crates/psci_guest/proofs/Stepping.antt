@@ -62,7 +62,7 @@ entry_out b past c s laws at last is on =
     let same : free.0 ≡ s = same_Some free.0 s (sym free.1 ∙ last) in (
       enter_outcome b (firmware_values b past) c s,
       out_of (enter_fault b (firmware_values b past) c s) _
-      (subst (λ x. enter_fault b (firmware_values b past) c x ≡ None) same free.2),
+          (subst (λ x. enter_fault b (firmware_values b past) c x ≡ None) same free.2),
     )
 
 -- nor a call of a running one
