@@ -1,13 +1,13 @@
 -- Where only one core may be at its start, what all cores do is what this one does.
 use Rattle.psci_headline.proofs.Words.{◌+◌, ◌<◌, ◌∙◌, ◌≡◌, ◌≤◌, ap, arith, BoardValue, cases_eq}
-use Rattle.psci_headline.proofs.Words.{controller_values, cores, each_core, Enter, inl, inr, List}
+use Rattle.psci_headline.proofs.Words.{controller_values, cores, each_core, inl, inr, List}
 use Rattle.psci_headline.proofs.Words.{None, Option, range_with_len, Record, refl, Some, Started}
 use Rattle.psci_headline.proofs.Words.{Stopped, subst, suc, sym, zero, ℕ}
 use Rattle.psci_headline.proofs.Beginning.{HasEntered}
 use Rattle.psci_world_spec.specs.Places.{place}
-use Rattle.psci_guest.specs.Turns.{arrived, arriving, exchange}
+use Rattle.psci_guest.specs.Turns.{arrived, arriving}
 use Rattle.psci_guest.proofs.Happened.{TurnLaws}
-use Rattle.psci_guest.proofs.Landing.{AllEntered, AreIn, HasLanded}
+use Rattle.psci_guest.proofs.Landing.{AllEntered, HasLanded}
 use Rattle.psci_guest.proofs.Over.{stands}
 use Rattle.psci_guest.proofs.Turning.{arriving_case, enters}
 

@@ -1,17 +1,16 @@
 -- A core is at its start exactly where the firmware does not know of its last one.
-use Rattle.std.specs.Prelude.{nat_le, option_and_then}
-use Rattle.psci_headline.proofs.Words.{◌&&◌, ◌<◌, ◌==◌, ◌∙◌, ◌≡◌, ◌≤◌, ◌⊎◌, and_parts, ap, arith}
-use Rattle.psci_headline.proofs.Words.{BoardValue, Bool, cases_eq, cond, controller_values, cores}
+use Rattle.psci_headline.proofs.Words.{◌<◌, ◌==◌, ◌∙◌, ◌≡◌, ◌≤◌, and_parts, ap, arith}
+use Rattle.psci_headline.proofs.Words.{BoardValue, Bool, cases_eq, controller_values, cores}
 use Rattle.psci_headline.proofs.Words.{eq-eqb, eqb-true, false, firmware_values, in_life, inl, inr}
 use Rattle.psci_headline.proofs.Words.{IsLegalPast, last_start, le-leb, leb-true, List, nat_tests}
-use Rattle.psci_headline.proofs.Words.{None, none-some, Option, Record, refl, Running, same_Some}
-use Rattle.psci_headline.proofs.Words.{Some, Start, Started, Stopped, sym, true, Values, ℕ}
+use Rattle.psci_headline.proofs.Words.{None, none-some, Record, refl}
+use Rattle.psci_headline.proofs.Words.{Some, Start, Started, sym, true, Values, ℕ}
 use Rattle.psci_ctl_spec.specs.Values as controlled
 use Rattle.psci_headline.proofs.Agreeing.{found_other, found_own}
 use Rattle.psci_headline.proofs.Placing.{last_is}
 use Rattle.psci_headline.proofs.Standing.{SettleLaws}
 use Rattle.psci_world_spec.specs.Places.{place}
-use Rattle.psci_guest.specs.Guest.{kept_after}
+use Rattle.psci_guest.specs.Arrivals.{kept_after}
 use Rattle.psci_guest.specs.Pair.{is_known, Kept, waiting_in}
 
 -- What a core that is to enter waits with.

@@ -1,7 +1,8 @@
 -- What both keep after each event that begins an exchange.
 use Rattle.std.specs.Prelude.{slice_get}
-use Rattle.std.proofs.Common.{◌++◌, ◌<◌, ◌∙◌, ◌∷◌, ◌≡◌, ap, arith, length, List, None, Option, option_map}
-use Rattle.std.proofs.Common.{refl, Some, sym, ℕ}
+use Rattle.std.proofs.Common.{◌++◌, ◌<◌, ◌∙◌, ◌∷◌, ◌≡◌, ap, arith, length, List, None, Option}
+use Rattle.std.proofs.Common.{option_map}
+use Rattle.std.proofs.Common.{refl, Some, ℕ}
 use Rattle.std.proofs.lemmas.Bool.{cond-true, lt-ltb}
 use Rattle.std.proofs.lemmas.Bool.Decides.{nat_tests}
 use Rattle.psci_board.specs.Board.{BoardValue, cores}
@@ -9,7 +10,6 @@ use Rattle.psci_ctl_spec.proofs.OneMore as controls
 use Rattle.psci_ctl_spec.specs.declared.call.CtlCall.{CtlCall}
 use Rattle.psci_ctl_spec.specs.declared.call.CtlCall.TheVariants as asked
 use Rattle.psci_ctl_spec.specs.declared.kick.Kick.{Kick}
-use Rattle.psci_ctl_spec.specs.declared.kick.Kick.TheVariants as kicks
 use Rattle.psci_ctl_spec.specs.declared.reply.CtlReply.TheVariants as replied
 use Rattle.psci_ctl_spec.specs.Changes as changes
 use Rattle.psci_ctl_spec.specs.Effects as effects
@@ -18,7 +18,6 @@ use Rattle.psci_ctl_spec.specs.Replies.{last_start, reply, reset_of, wake_of}
 use Rattle.psci_fw_spec.specs.declared.call.FwCall.TheVariants as calls
 use Rattle.psci_fw_spec.specs.declared.outcome.Outcome.{Outcome}
 use Rattle.psci_fw_spec.specs.declared.reply.FwReply.{FwReply}
-use Rattle.psci_fw_spec.specs.declared.reply.FwReply.TheVariants as replies
 use Rattle.psci_fw_spec.specs.After.{after}
 use Rattle.psci_fw_spec.specs.Answer.{answer}
 use Rattle.psci_fw_spec.specs.Said.{listed}
@@ -30,12 +29,13 @@ use Rattle.psci_world_spec.specs.declared.event.Event.TheVariants.{Call, Enter, 
 use Rattle.psci_world_spec.specs.declared.place.Place.TheVariants.{Running, Started, Stopped}
 use Rattle.psci_world_spec.specs.declared.said.Record.{Record}
 use Rattle.psci_world_spec.specs.Histories.{acks, controller_history, controller_values}
-use Rattle.psci_world_spec.specs.Histories.{firmware_history, firmware_values, outcome_in, sent, sent_in}
+use Rattle.psci_world_spec.specs.Histories.{firmware_history, firmware_values, outcome_in, sent}
+use Rattle.psci_world_spec.specs.Histories.{sent_in}
 use Rattle.psci_world_spec.specs.Legal.{IsLegalPast, legal, said_by, said_of, sent_as}
 use Rattle.psci_world_spec.specs.Places.{place}
 use Rattle.psci_headline.specs.Settling.{step}
 use Rattle.psci_headline.proofs.Standing.{SettleLaws}
-use Rattle.psci_guest.specs.Guest.{kept_after}
+use Rattle.psci_guest.specs.Arrivals.{kept_after}
 use Rattle.psci_guest.specs.Pair.{Kept, message_of, with_call}
 use Rattle.psci_guest.specs.Turns.{exchange}
 use Rattle.psci_guest.proofs.Tied.{asked_so, exchanged_so, IsAskedOf, IsMore}

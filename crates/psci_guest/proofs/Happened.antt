@@ -73,7 +73,8 @@ call_asked b life past c regs laws is coming entered =
 
 pub call_landed : (b : BoardValue) (life : ℕ) (past : List Record) (c : ℕ) (regs : Regs)
     → TurnLaws b → IsLegalPast b past → IsComing b past life → AllEntered b past
-    → HasLanded b (started_by (sent_in (legal b past (Call c regs)))) (exchange b past (Call c regs))
+    → HasLanded b (started_by (sent_in (legal b past (Call c regs))))
+    (exchange b past (Call c regs))
 call_landed b life past c regs laws is coming entered =
     asked_landed b life past (Call c regs) laws.settle is coming
     (call_asked b life past c regs laws is coming entered)

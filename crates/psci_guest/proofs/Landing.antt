@@ -1,5 +1,5 @@
--- What is so between the exchanges of a turn: in a life nothing is outstanding, and at most one core
--- is at its start.
+-- What is so between the exchanges of a turn: in a life nothing is outstanding, and at most one
+-- core is at its start.
 use Rattle.psci_headline.proofs.Words.{◌<◌, ◌≡◌, BoardValue, controller_values, cores, false}
 use Rattle.psci_headline.proofs.Words.{firmware_values, in_life, inl, IsLegalPast, List}
 use Rattle.psci_headline.proofs.Words.{None, OfCore, Option, Record}

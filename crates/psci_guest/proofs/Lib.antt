@@ -12,5 +12,6 @@ pub mod Events
 pub mod Doors
 pub mod Stepping
 -- Worked examples.
+mod ArrivalRows
 mod PairRows
 mod TurnRows

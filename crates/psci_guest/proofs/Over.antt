@@ -28,7 +28,8 @@ none_called b past c regs at = grind (arith, nat_tests)
 -- an event of which nothing comes
 nothing : (b : BoardValue) (past : List Record) (event : Event) → TurnLaws b → IsOver b past
     → number_in (legal b past event) ≡ None
-    → (controller_values b (step b past event)).life ≡ None → HasLanded b None (exchange b past event)
+    → (controller_values b (step b past event)).life ≡ None
+    → HasLanded b None (exchange b past event)
 unfolding exchange
 nothing b past event laws is none over =
     let next : List Record = step b past event in

@@ -17,7 +17,7 @@ use Rattle.psci_world_spec.specs.Histories.{firmware_values}
 use Rattle.psci_world_spec.specs.Legal.{run_from}
 use Rattle.psci_world_spec.proofs.Scripts as scripts
 use Rattle.psci_world_spec.proofs.Scripts.{board, on_3, system_reset}
-use Rattle.psci_guest.specs.Guest.{kept_after}
+use Rattle.psci_guest.specs.Arrivals.{kept_after}
 use Rattle.psci_guest.specs.Pair.{arrival_of, is_known, Kept, message_of, runs_in, waiting_in}
 use Rattle.psci_guest.specs.Pair.{with_call}
 use Rattle.psci_guest.specs.Turns.{core_started, started_by}
@@ -25,7 +25,13 @@ use Rattle.psci_guest.specs.Turns.{core_started, started_by}
 -- Replies -----------------------------------------------------------------------------------------
 
 abbrev message : MessageValue
-message = record { kind = kinds.Start; core = record { number = 3 }; life = 1; number = 0; parts = [] }
+message = record {
+  kind = kinds.Start;
+  core = record { number = 3 };
+  life = 1;
+  number = 0;
+  parts = [];
+}
 
 sends : (message_of (replies.Out (record { act = acts.Stop; message = Some message }))
     ≡ Some message)

@@ -1,10 +1,13 @@
 -- What is so once the message that was just sent was served.
 use Rattle.psci_headline.proofs.Words.{◌+◌, ◌<◌, ◌∙◌, ◌∷◌, ◌≡◌, ◌⊎◌, AckValue, answers, ap, arith}
-use Rattle.psci_headline.proofs.Words.{BoardValue, cases_eq, cond-false, cond-true, controller_values}
+use Rattle.psci_headline.proofs.Words.{BoardValue, cases_eq, cond-false, cond-true}
+use Rattle.psci_headline.proofs.Words.{controller_values}
 use Rattle.psci_headline.proofs.Words.{cores, Down, false, firmware_values, height, in_life}
-use Rattle.psci_headline.proofs.Words.{inl, inr, is_done, is_system, IsLegalPast, Kind, length, List}
+use Rattle.psci_headline.proofs.Words.{inl, inr, is_done, is_system, IsLegalPast, Kind, length}
+use Rattle.psci_headline.proofs.Words.{List}
 use Rattle.psci_headline.proofs.Words.{message_effect, MessageValue, nat_tests, ne_eqb, None}
-use Rattle.psci_headline.proofs.Words.{none-some, OfCore, OfSystem, Option, or_left, or_right, Place}
+use Rattle.psci_headline.proofs.Words.{none-some, OfCore, OfSystem, Option, or_left, or_right}
+use Rattle.psci_headline.proofs.Words.{Place}
 use Rattle.psci_headline.proofs.Words.{place, place_of_effect, Record, refl, same_Some, sent}
 use Rattle.psci_headline.proofs.Words.{serving}
 use Rattle.psci_headline.proofs.Words.{slice_get_within, slot_of, Some, start_of_life, Started}
@@ -66,7 +69,8 @@ module _ (b : BoardValue) (life : ℕ) (past rest : List Record) (m : MessageVal
   none_other x on ne None e = refl
   none_other x on ne (Some y) e =
       let same = is.only x y on e in
-      absurd (ne (sym (slots.core x y e).core ∙ ap (λ (n : MessageValue). n.core.number) (sym same)))
+      absurd (ne (sym (slots.core x y e).core
+      ∙ ap (λ (n : MessageValue). n.core.number) (sym same)))
 
   -- A Down ----------------------------------------------------------------------------------------
 

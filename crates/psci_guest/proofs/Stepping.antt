@@ -1,7 +1,8 @@
 -- What both keep, step by step, in a run of turns.
-use Rattle.psci_headline.proofs.Words.{◌<◌, ◌∙◌, ◌∷◌, ◌≡◌, [], and_parts, ap, arith, BoardValue}
-use Rattle.psci_headline.proofs.Words.{Bool, controller_values, cores, Enter, eq-eqb, eqb-true, false}
-use Rattle.psci_headline.proofs.Words.{call_fault, cases_eq, in_life, enter_fault, false≢true, firmware_values, FwFault, inl, inr}
+use Rattle.psci_headline.proofs.Words.{◌<◌, ◌∙◌, ◌≡◌, [], and_parts, ap, arith, BoardValue}
+use Rattle.psci_headline.proofs.Words.{controller_values, cores, Enter, eq-eqb, eqb-true, false}
+use Rattle.psci_headline.proofs.Words.{call_fault, cases_eq, in_life, enter_fault, false≢true}
+use Rattle.psci_headline.proofs.Words.{firmware_values, FwFault, inl, inr}
 use Rattle.psci_headline.proofs.Words.{IsLegalPast, last_start, length, List, outcome_of}
 use Rattle.psci_headline.proofs.Words.{reply_or, request_of, same_Some}
 use Rattle.psci_headline.proofs.Words.{MessageValue, nat_tests, None, Option, Record, refl, Regs}
@@ -14,10 +15,8 @@ use Rattle.psci_fw_spec.specs.Entering.{enter_outcome}
 use Rattle.psci_fw_spec.specs.declared.outcome.Outcome.{Outcome}
 use Rattle.psci_fw_spec.specs.declared.reply.FwReply.{FwReply}
 use Rattle.psci_fw_spec.specs.declared.reply.FwReply.TheVariants as replies
-use Rattle.psci_fw_spec.specs.declared.call.FwCall.TheVariants as calls
 use Rattle.psci_world_spec.specs.declared.event.Event.TheVariants.{Call, Reset, Wake}
 use Rattle.psci_world_spec.specs.declared.place.Place.{Place}
-use Rattle.psci_world_spec.specs.declared.said.Said.{Said}
 use Rattle.psci_world_spec.specs.Histories.{sent_in}
 use Rattle.psci_world_spec.specs.Legal.{legal, said_of}
 use Rattle.psci_world_spec.specs.Places.{place}
@@ -29,20 +28,22 @@ use Rattle.psci_headline.proofs.Standing.{settled_life}
 use Rattle.psci_ctl_spec.specs.declared.call.CtlCall.TheVariants as asked
 use Rattle.psci_ctl_spec.specs.Legal.{IsOfBoard}
 use Rattle.psci_fw_spec.specs.Phases as phases
-use Rattle.psci_guest.specs.Guest.{AreArrivals, IsArrival, kept_after, RunsIn, SaysAct}
-use Rattle.psci_guest.specs.Pair.{arrival_of, message_of, runs_in, waiting_in, with_call}
+use Rattle.psci_guest.specs.Arrivals.{AreArrivals, kept_after, RunsIn, SaysAct}
+use Rattle.psci_guest.specs.Pair.{arrival_of, message_of, runs_in, waiting_in}
 use Rattle.psci_guest.specs.Steps.{AreSteps, call_reply, entry_after, IsCallStep, IsDoor, IsDoorOf}
-use Rattle.psci_guest.specs.Steps.{IsKickStep, IsShut}
-use Rattle.psci_guest.specs.Turns.{arrived, arriving, Calls, event_of, exchange, IsSettled, Resets, started_by}
+use Rattle.psci_guest.specs.Steps.{IsKickStep}
+use Rattle.psci_guest.specs.Turns.{arrived, Calls, event_of, exchange, IsSettled, Resets}
+use Rattle.psci_guest.specs.Turns.{started_by}
 use Rattle.psci_guest.specs.Turns.{Turn, turns, Wakes}
 use Rattle.psci_guest.proofs.Arriving.{arrived_none, arrived_one}
 use Rattle.psci_guest.proofs.Doors.{door_open, door_shut, IsWaiting}
 use Rattle.psci_guest.proofs.Events.{call_kept, call_said, call_sound, entry_kept, entry_said}
 use Rattle.psci_guest.proofs.Events.{entry_sound, reset_kept, wake_kept}
 use Rattle.psci_guest.proofs.Happened.{TurnLaws}
-use Rattle.psci_guest.proofs.Landing.{AllEntered, AtMost, HasLanded}
+use Rattle.psci_guest.proofs.Landing.{HasLanded}
 use Rattle.psci_guest.proofs.Tied.{IsMore, reply_sends}
-use Rattle.psci_guest.proofs.Turning.{arriving_case, begun_by, exchanged, first_landed, home, IsHome}
+use Rattle.psci_guest.proofs.Turning.{arriving_case, begun_by, exchanged, first_landed, home}
+use Rattle.psci_guest.proofs.Turning.{IsHome}
 
 -- an outcome is said as it is
 says : (n : ℕ) (o : Outcome) → SaysAct (said_of n (replies.Out o)) o.act
@@ -72,7 +73,8 @@ call_out : (b : BoardValue) (past : List Record) (c : ℕ) (regs : Regs) → Tur
 unfolding answer
 call_out b past c regs laws is on at = (
   outcome_of b (firmware_values b past) c (request_of regs),
-  out_of (call_fault b (firmware_values b past) c) _ ((laws.settle.past past is).free.calls c on at),
+  out_of (call_fault b (firmware_values b past) c) _
+      ((laws.settle.past past is).free.calls c on at),
 )
 
 -- A core that may be at its start -----------------------------------------------------------------
@@ -96,7 +98,8 @@ module _ (b : BoardValue) (past : List Record) (one : ℕ) (laws : TurnLaws b) (
   tells s core same e (replies.Out o) reply = record {
     core = subst (λ i. i < cores b) (sym same) on;
     started = subst (λ i. place b past i ≡ Started) (sym same) (waits s e).at;
-    start = subst (λ i. last_start (controller_values b past) i ≡ Some s) (sym same) (waits s e).last;
+    start = subst (λ i. last_start (controller_values b past) i ≡ Some s) (sym same)
+        (waits s e).last;
     act = subst (λ i. SaysAct (legal b past (Enter i)) o.act) (sym same)
         (subst (λ said. SaysAct said o.act)
         (sym (entry_said b past one s on (waits s e).at (waits s e).last
@@ -241,7 +244,10 @@ steps b laws more settled = record {
   some = laws.settle.some;
   begins = ap (λ (v : Values). record { firmware = v; controller = controller_values b [] })
       (first_kept b)
-      ∙ ap (λ (w : controlled.Values). record { firmware = lives.start_of_life b 0; controller = w })
+      ∙ ap (λ (w : controlled.Values). record {
+        firmware = lives.start_of_life b 0;
+        controller = w;
+      })
       (first_controlled b);
   comes_on = refl;
   turned = λ ts t. refl;

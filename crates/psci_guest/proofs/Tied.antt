@@ -1,9 +1,8 @@
 -- What both keep after an exchange is what the records of it say.
-use Rattle.std.proofs.Common.{◌++◌, ◌<◌, ◌∙◌, ◌∷◌, ◌≡◌, [], ap, arith, length, List, None}
-use Rattle.std.proofs.Common.{Option, option_map, refl, Some, subst, sym, ℕ}
-use Rattle.std.proofs.lemmas.Bool.{cond-true, lt-ltb}
+use Rattle.std.proofs.Common.{◌++◌, ◌∙◌, ◌∷◌, ◌≡◌, ap, arith, length, List, None}
+use Rattle.std.proofs.Common.{Option, option_map, refl, Some, ℕ}
 use Rattle.std.proofs.lemmas.Bool.Decides.{nat_tests}
-use Rattle.psci_board.specs.Board.{BoardValue, cores}
+use Rattle.psci_board.specs.Board.{BoardValue}
 use Rattle.psci_messages.specs.Message.{AckValue, MessageValue}
 use Rattle.psci_ctl_spec.proofs.OneMore as controls
 use Rattle.psci_ctl_spec.specs.declared.call.CtlCall.TheVariants as asked
@@ -12,30 +11,27 @@ use Rattle.psci_ctl_spec.specs.declared.delivery.Delivery.TheVariants as deliver
 use Rattle.psci_ctl_spec.specs.declared.reply.CtlReply.TheVariants as replied
 use Rattle.psci_ctl_spec.specs.Changes as changes
 use Rattle.psci_ctl_spec.specs.Effects.{effect_of}
-use Rattle.psci_ctl_spec.specs.Replies.{delivery_of, last_start, reply}
-use Rattle.psci_ctl_spec.specs.Values as controlled
+use Rattle.psci_ctl_spec.specs.Replies.{delivery_of, reply}
 use Rattle.psci_fw_spec.specs.declared.call.FwCall.{FwCall}
 use Rattle.psci_fw_spec.specs.declared.call.FwCall.TheVariants as calls
 use Rattle.psci_fw_spec.specs.declared.reply.FwReply.{FwReply}
-use Rattle.psci_fw_spec.specs.declared.reply.FwReply.TheVariants as replies
 use Rattle.psci_fw_spec.specs.After.{after}
 use Rattle.psci_fw_spec.specs.Answer.{answer}
 use Rattle.psci_fw_spec.specs.Said.{listed}
 use Rattle.psci_fw_spec.specs.Exchange.{FwExchange}
 use Rattle.psci_fw_spec.specs.History.{values_of}
 use Rattle.psci_world_spec.specs.declared.event.Event.{Event}
-use Rattle.psci_world_spec.specs.declared.event.Event.TheVariants.{Call, Deliver, Enter, Take}
+use Rattle.psci_world_spec.specs.declared.event.Event.TheVariants.{Deliver, Take}
 use Rattle.psci_world_spec.specs.declared.said.Record.{Record}
-use Rattle.psci_world_spec.specs.declared.said.Said.{Said}
 use Rattle.psci_world_spec.specs.Histories.{acks, controller_history, controller_values}
 use Rattle.psci_world_spec.specs.Histories.{firmware_history, firmware_values, sent, sent_in}
 use Rattle.psci_world_spec.specs.Legal.{legal, said_of}
 use Rattle.psci_world_spec.specs.Lists.{indexed}
 use Rattle.psci_headline.specs.Settling.{serving, step}
 use Rattle.psci_headline.proofs.Finding.{indexed_at, numbered_new}
-use Rattle.psci_guest.specs.Guest.{kept_after}
+use Rattle.psci_guest.specs.Arrivals.{kept_after}
 use Rattle.psci_guest.specs.Pair.{Kept, message_of, with_ack, with_call, with_message}
-use Rattle.psci_guest.specs.Turns.{exchange, number_in}
+use Rattle.psci_guest.specs.Turns.{exchange}
 use Rattle.psci_guest.proofs.Numbers.{numbered}
 
 -- what one exchange more leaves of the firmware

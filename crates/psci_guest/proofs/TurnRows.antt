@@ -68,7 +68,8 @@ happen : Gives (happening board)
     ∷ Happen (on_3 ∷ Resets 3 ∷ []) (event_of on_3 ∷ Deliver 0 ∷ Take 0 ∷ Enter 3
     ∷ event_of (Resets 3) ∷ Enter 3 ∷ Deliver 1 ∷ Take 1 ∷ [])
     -- next_life: a Reset is delivered, and the boot core enters in the next life
-    ∷ Happen (on_3 ∷ system_reset 3 ∷ version 0 ∷ version 3 ∷ []) (event_of on_3 ∷ Deliver 0 ∷ Take 0
+    ∷ Happen (on_3 ∷ system_reset 3 ∷ version 0 ∷ version 3 ∷ []) (event_of on_3 ∷ Deliver 0
+    ∷ Take 0
     ∷ Enter 3 ∷ event_of (system_reset 3) ∷ Deliver 1 ∷ Take 1 ∷ Enter 0 ∷ event_of (version 0)
     ∷ event_of (version 3) ∷ [])
     -- is_off: behind an Off nothing comes of a call, a wake-up or a reset

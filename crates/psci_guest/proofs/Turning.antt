@@ -1,7 +1,8 @@
 -- After each turn all is settled.
 use Rattle.std.proofs.Common.{unwrap_or}
 use Rattle.psci_headline.proofs.Words.{◌<◌, ◌∙◌, ◌∷◌, ◌≡◌, [], ap, AreAtRest}
-use Rattle.psci_headline.proofs.Words.{arith, BoardValue, cases_eq, cond-false, controller_values, cores}
+use Rattle.psci_headline.proofs.Words.{arith, BoardValue, cases_eq, cond-false, controller_values}
+use Rattle.psci_headline.proofs.Words.{cores}
 use Rattle.psci_headline.proofs.Words.{Enter, false, firmware_values, in_life, inl, inr, is_halting}
 use Rattle.psci_headline.proofs.Words.{IsLegalPast, List, nat_tests, ne_eqb, OfCore, Reset, Wake}
 use Rattle.psci_headline.proofs.Words.{None, none-some, Option, Record, refl, Some}
@@ -70,7 +71,11 @@ module _ (b : BoardValue) (life one : ℕ) (laws : TurnLaws b) where
         arriving_case b past c (Arrives b life one)
         (λ at.
         let all = enters past c on is at in
-        record { legal = all.legal; coming = all.coming; others = λ x inside ne. all.entered x inside })
+        record {
+          legal = all.legal;
+          coming = all.coming;
+          others = λ x inside ne. all.entered x inside;
+        })
         (λ not. is);
     todo = λ past c x on ne is now other. tt;
     done = λ past c x on ne is now old.
@@ -133,7 +138,11 @@ landed_home b past None one laws e has =
 landed_home b past (Some life) one laws e has =
     home_in b (arrived b past) life
     (all_in b life (unwrap_or one 0) laws past
-    (record { legal = has.legal; coming = has.coming life e; others = one_most b one past has.others }))
+    (record {
+      legal = has.legal;
+      coming = has.coming life e;
+      others = one_most b one past has.others;
+    }))
 
 -- the core that a turn may start
 abbrev pub begun_by : BoardValue → List Record → Turn → Option ℕ

@@ -1,4 +1,4 @@
 pub mod Turns
 pub mod Pair
-pub mod Guest
+pub mod Arrivals
 pub mod Steps

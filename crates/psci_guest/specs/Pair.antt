@@ -23,7 +23,7 @@ use Rattle.psci_fw_spec.specs.After as leaves
 use Rattle.psci_fw_spec.specs.Answer.{answer}
 use Rattle.psci_fw_spec.specs.Phases.{is_running}
 use Rattle.psci_fw_spec.specs.Values as kept
-use Rattle.psci_guest.specs.declared.turned.Arrival.{Arrival}
+use Rattle.psci_guest.specs.declared.arrival.Arrival.{Arrival}
 
 -- Both, as contracts see them.
 pub record PairValue : Type 0 where

@@ -1,5 +1,5 @@
 -- What both keep, step by step, in a run of turns.
-use Rattle.std.specs.Prelude.{◌≡◌, ℕ, ◌<◌, Bool, true, false, List, [], ◌∷◌, Option, None, Some}
+use Rattle.std.specs.Prelude.{◌≡◌, ℕ, ◌<◌, true, false, List, [], ◌∷◌, Option, None, Some}
 use Rattle.psci_board.specs.Board.{BoardValue, cores}
 use Rattle.psci_board.specs.declared.node.Core.{Core}
 use Rattle.psci_messages.specs.Message.{MessageValue}
@@ -24,14 +24,15 @@ use Rattle.psci_world_spec.specs.declared.said.Record.{Record}
 use Rattle.psci_world_spec.specs.Histories.{controller_values, firmware_values}
 use Rattle.psci_world_spec.specs.Legal.{legal}
 use Rattle.psci_world_spec.specs.Places.{place}
-use Rattle.psci_guest.specs.Guest.{AreArrivals, kept_after, RunsIn, SaysAct}
-use Rattle.psci_guest.specs.Pair.{Kept, arrival_of, message_of, runs_in, waiting_in, with_call}
+use Rattle.psci_guest.specs.Arrivals.{AreArrivals, kept_after, RunsIn, SaysAct}
+use Rattle.psci_guest.specs.Pair.{arrival_of, message_of, runs_in, waiting_in, with_call}
 use Rattle.psci_guest.specs.Turns.{IsSettled, Turn, arrived, event_of, exchange, started_by, turns}
 
--- what the firmware replies after these records to a core that calls, and to one that enters
+-- what the firmware replies after these records to a core that calls
 abbrev pub call_reply : BoardValue → List Record → ℕ → Regs → FwReply
 call_reply b past c regs = answer b (firmware_values b past) c (calls.Smc regs)
 
+-- and to one that enters by this start
 abbrev pub entry_after : BoardValue → List Record → ℕ → Start → FwReply
 entry_after b past c s = answer b (firmware_values b past) c (calls.Enter s)
 

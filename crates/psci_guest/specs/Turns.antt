@@ -65,7 +65,7 @@ unfoldable pub turns : BoardValue → List Turn → List Record
 turns b [] = arrived b []
 turns b (t ∷ ts) = turn b (turns b ts) t
 
--- Which core may be started -------------------------------------------------------------------------
+-- Which core may be started -----------------------------------------------------------------------
 
 -- the core that a message of this kind may start: its own, or where a life begins the boot core
 abbrev pub core_started : MessageValue → Kind → Option ℕ
@@ -79,7 +79,7 @@ abbrev pub started_by : Option MessageValue → Option ℕ
 started_by None = None
 started_by (Some m) = core_started m m.kind
 
--- Settled -------------------------------------------------------------------------------------------
+-- Settled -----------------------------------------------------------------------------------------
 
 -- What holds between two turns.
 pub record IsSettled (b : BoardValue) (past : List Record) : Type 0 where

@@ -7,11 +7,12 @@
 //!   agree on every domain.
 #![tactic(auto)]
 
+mod arrival;
 mod laws;
 mod pair;
 mod steps;
-mod turned;
 
+pub use arrival::Arrival;
 pub use laws::law_turns;
 pub use pair::Pair;
-pub use turned::{Arrival, Turned};
+pub use steps::law_steps;

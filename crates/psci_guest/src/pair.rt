@@ -1,6 +1,6 @@
 //! Firmware and power controller as one.
 
-use crate::turned::Arrival;
+use crate::arrival::Arrival;
 use psci_board::{Board, Core, Memory};
 use psci_ctl::{Controller, Delivery, Kick, Message};
 use psci_fw::{Firmware, FwFault, Outcome, Regs, Start};

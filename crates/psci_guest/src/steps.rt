@@ -15,7 +15,7 @@ use psci_headline::{
 
 /// What an exchange of each run of turns leaves of firmware and power controller, and of the core
 /// that it starts; and that the run is settled.
-pub(crate) fn law_steps()
+pub fn law_steps()
     ensures { (b : BoardValue) → IsBoard b → AreSteps b }
 {
     law_sizes();

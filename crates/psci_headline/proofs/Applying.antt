@@ -72,7 +72,8 @@ others_deep b life known phase sent w r k m p is down low part live x on joined 
     grind (arith, nat_tests, part_claims) in
     let now : p.generation ≡ known_below b w.starts (suc k) (up b (suc k) x) =
     live ∙ ap (known_below b w.starts (suc k)) (sym joined) in
-    child_deep b life known phase sent w r m.core.number x k p is ne on (omega (arith, within, down.few)) low
+    child_deep b life known phase sent w r m.core.number x k p is ne on
+    (omega (arith, within, down.few)) low
     (subst (λ l. IsClaimOn b life l (up b l x) p sent) more claim)
     (subst (λ l. p.generation ≡ known_below b w.starts l (up b l x)) more now)
 

@@ -1,4 +1,4 @@
--- The power of a guest: what its methods answer, turn by turn.
+-- Which core runs, and which one was started and enters.
 use Rattle.std.specs.Prelude.{◌≡◌, ℕ, ◌<◌, List, Option, None, Some}
 use Rattle.psci_board.specs.Board.{BoardValue, cores}
 use Rattle.psci_ctl_spec.specs.Replies.{last_start}
@@ -11,10 +11,8 @@ use Rattle.psci_world_spec.specs.declared.said.Said.TheVariants.{Fw}
 use Rattle.psci_world_spec.specs.Histories.{controller_values, firmware_values}
 use Rattle.psci_world_spec.specs.Legal.{legal}
 use Rattle.psci_world_spec.specs.Places.{place}
-use Rattle.psci_guest.specs.declared.turned.Arrival.{Arrival}
-use Rattle.psci_guest.specs.declared.turned.Turned.{Turned}
-use Rattle.psci_guest.specs.Pair.{Kept, PairValue, board_of, kept_by}
-use Rattle.psci_guest.specs.Turns.{Turn, event_of, exchange, turn, turns}
+use Rattle.psci_guest.specs.declared.arrival.Arrival.{Arrival}
+use Rattle.psci_guest.specs.Pair.{Kept}
 
 -- what both keep after these records
 abbrev pub kept_after : BoardValue → List Record → Kept
@@ -23,24 +21,14 @@ kept_after b past = record {
   controller = controller_values b past;
 }
 
--- Turns ---------------------------------------------------------------------------------------------
-
--- The machine after these turns, newest first.
-pub record IsAfter (b : BoardValue) (ts : List Turn) (p : PairValue) : Type 0 where
-  pub board : board_of p ≡ b
-  pub kept : kept_by p ≡ kept_after b (turns b ts)
-
--- what holds of each: there are such turns
-pub record HasTurns (p : PairValue) : Type 0 where
-  pub turns : List Turn
-  pub is : IsAfter (board_of p) turns p
+-- Cores ------------------------------------------------------------------------------------------
 
 -- A core runs, in this life.
 pub record RunsIn (b : BoardValue) (past : List Record) (life c : ℕ) : Type 0 where
   pub present : (controller_values b past).life ≡ Some life
   pub place : place b past c ≡ Running
 
--- What is told ----------------------------------------------------------------------------------------
+-- Arrivals ---------------------------------------------------------------------------------------
 
 -- the firmware's outcome was this
 abbrev pub SaysAct : Said → Act → Type 0
@@ -58,9 +46,3 @@ pub record IsArrival (b : BoardValue) (past : List Record) (a : Arrival) : Type 
 abbrev pub AreArrivals : BoardValue → List Record → Option Arrival → Type 0
 AreArrivals b past None = (c : ℕ) → c < cores b → place b past c ≡ Started → ⊥
 AreArrivals b past (Some a) = IsArrival b past a
-
--- What is told of a call.
-pub record IsTold (b : BoardValue) (past : List Record) (t : Turn) (told : Turned) : Type 0 where
-  pub act : SaysAct (legal b past (event_of t)) told.act
-  pub arrival : AreArrivals b (exchange b past (event_of t)) told.arrival
-  pub life : told.life ≡ (controller_values b (turn b past t)).life

@@ -1,0 +1,90 @@
+-- Worked examples: which core runs, which one was started and enters, and what is not settled.
+use Rattle.std.proofs.Common.{◌∷◌, ◌≡◌, [], ap, arith, List, None, Option, refl, Some, sym, ℕ}
+use Rattle.std.proofs.lemmas.Option.{none-some}
+use Rattle.psci_messages.specs.declared.start.Cause.TheVariants as causes
+use Rattle.psci_messages.specs.declared.start.Start.{Start}
+use Rattle.psci_fw_spec.specs.declared.outcome.Act.TheVariants as acts
+use Rattle.psci_world_spec.specs.declared.event.Event.{Event}
+use Rattle.psci_world_spec.specs.declared.event.Event.TheVariants.{Deliver, Enter}
+use Rattle.psci_world_spec.specs.declared.said.Record.{Record}
+use Rattle.psci_world_spec.specs.declared.said.Said.TheVariants.{Absent, Fw, Ignored}
+use Rattle.psci_world_spec.specs.Legal.{run_from}
+use Rattle.psci_world_spec.proofs.Scripts as scripts
+use Rattle.psci_world_spec.proofs.Scripts.{board, on_3}
+use Rattle.psci_guest.specs.declared.arrival.Arrival.{Arrival}
+use Rattle.psci_guest.specs.Arrivals.{AreArrivals, IsArrival, RunsIn, SaysAct}
+use Rattle.psci_guest.specs.Turns.{IsSettled}
+
+abbrev after : List Event → List Record
+after events = run_from board [] events
+
+-- Outcomes ----------------------------------------------------------------------------------------
+
+says : SaysAct (Fw acts.Resume None) acts.Resume
+says = refl
+
+says_other : SaysAct (Fw acts.Stop None) acts.Resume → ⊥
+says_other e = absurd (cc)
+
+says_nothing : (SaysAct Ignored acts.Stop → ⊥) × (SaysAct Absent acts.Stop → ⊥)
+says_nothing = (λ e. e, λ e. e)
+
+-- Running cores -----------------------------------------------------------------------------------
+
+boot_runs : RunsIn board (after (Enter 0 ∷ [])) 1 0
+unfolding scripts.computing
+boot_runs = record { present = refl; place = refl }
+
+other_life : RunsIn board (after (Enter 0 ∷ [])) 2 0 → ⊥
+unfolding scripts.computing
+other_life is = let life = is.present in absurd (cc)
+
+other_stands : RunsIn board (after (Enter 0 ∷ [])) 1 3 → ⊥
+unfolding scripts.computing
+other_stands is = let place = is.place in absurd (cc)
+
+-- Arrivals ----------------------------------------------------------------------------------------
+
+abbrev boot : Arrival
+boot = record {
+  core = record { number = 0 };
+  start = record { life = 1; number = 1; cause = causes.Boot };
+  act = acts.Enter 0x40000000 0;
+}
+
+abbrev number_in : Option Start → ℕ
+number_in None = 0
+number_in (Some s) = s.number
+
+boot_enters : IsArrival board [] boot
+unfolding scripts.computing
+boot_enters = record { core = omega arith; started = refl; start = refl; act = refl }
+
+has_entered : IsArrival board (after (Enter 0 ∷ [])) boot → ⊥
+unfolding scripts.computing
+has_entered is = let place = is.started in absurd (cc)
+
+other_start : IsArrival board []
+    (record boot { start = record { life = 1; number = 2; cause = causes.Boot } }) → ⊥
+unfolding scripts.computing
+other_start is = let n : 1 ≡ 2 = ap number_in is.start in absurd (omega (arith, n))
+
+other_act : IsArrival board [] (record boot { act = acts.Resume }) → ⊥
+unfolding scripts.computing
+other_act is = let act = is.act in absurd (cc)
+
+boot_waits : AreArrivals board [] None → ⊥
+unfolding scripts.computing
+boot_waits none = none 0 (omega arith) refl
+
+-- Not settled -------------------------------------------------------------------------------------
+
+-- a Start is outstanding
+start_waits : IsSettled board (after (Enter 0 ∷ on_3 ∷ [])) → ⊥
+unfolding scripts.computing
+start_waits is = none-some _ (sym ((is.rest 1 refl).own 3 (omega arith)))
+
+-- a core is at its start
+core_waits : IsSettled board (after (Enter 0 ∷ on_3 ∷ Deliver 0 ∷ [])) → ⊥
+unfolding scripts.computing
+core_waits is = (is.rest 1 refl).entered 3 (omega arith) refl
