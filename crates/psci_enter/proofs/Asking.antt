@@ -38,7 +38,6 @@ use Rattle.psci_enter.specs.declared.post.Post.TheVariants.{Entering, Running}
 use Rattle.psci_enter.specs.declared.side.FirmwareSide.{FirmwareSide}
 use Rattle.psci_enter.specs.Side.{IsAsked, reply_in}
 use Rattle.psci_enter.specs.SideOf.{Fits, IsAnew, IsFirmwareOf, IsSideOf, core_of}
-
 use Rattle.psci_enter.proofs.Replying.{called_reply, entered_reply, life_of, one_entry}
 use Rattle.psci_enter.proofs.Replying.{some_start, taken_reply}
 

@@ -42,7 +42,6 @@ use Rattle.psci_enter.specs.declared.side.FirmwareSide.{FirmwareSide}
 use Rattle.psci_enter.specs.Side.{IsAsked, post_after, replied, reply_in}
 use Rattle.psci_enter.specs.SideOf.{Fits, IsAnew, IsFirmwareOf, IsSideOf, core_of}
 use Rattle.psci_enter.proofs.Values.{called_values, entered_values, taken_values}
-
 use Rattle.psci_enter.proofs.Replying.{called_reply, entered_reply, entry_out, life_of, one_entry}
 use Rattle.psci_enter.proofs.Replying.{some_ack, taken_reply}
 
