@@ -131,7 +131,8 @@ lost_ack b p f g c a board anew asked = record {
   board = asked.board ∙ board;
   values = inr (record {
     values = asked.values
-        ∙ ap (λ v. after f.board c (calls.Take a) (answer f.board v c (calls.Take a)) v) anew.values;
+        ∙ ap (λ v. after f.board c (calls.Take a) (answer f.board v c (calls.Take a)) v)
+        anew.values;
     later = anew.later;
     none = anew.none;
   });

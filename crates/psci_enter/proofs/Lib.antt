@@ -6,5 +6,6 @@ pub mod Asking
 pub mod Standing
 pub mod Others
 pub mod Keeping
+pub mod Sending
 mod OrderRows
 mod SideRows

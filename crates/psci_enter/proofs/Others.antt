@@ -217,7 +217,8 @@ module _ (b : BoardValue) (p : Port) (s : FirmwareSide) (is : IsSideOf b s p) wh
 
   -- It is reset by itself ------------------------------------------------------------------------
 
-  reset_row : (kick : Kick) (q : Port) → q.row c ≡ row_by c (kick_effect c causes.Reset kick) (p.row c)
+  reset_row : (kick : Kick) (q : Port)
+      → q.row c ≡ row_by c (kick_effect c causes.Reset kick) (p.row c)
       → IsSideOf b (at Waiting s) q ⊎ IsSideOf b s q
   reset_row (kicks.Started start) q at_row =
       let own : q.row c ≡ started causes.Reset (p.row c) =
@@ -229,7 +230,8 @@ module _ (b : BoardValue) (p : Port) (s : FirmwareSide) (is : IsSideOf b s p) wh
       })
   reset_row kicks.Ignored q at_row = inr (like_side q (p.row c) at_row refl refl)
 
-  pub resets_own : IsSideOf b (at Waiting s) (step b p (Resets c)) ⊎ IsSideOf b s (step b p (Resets c))
+  pub resets_own : IsSideOf b (at Waiting s) (step b p (Resets c))
+      ⊎ IsSideOf b s (step b p (Resets c))
   unfolding step reply effect_of
   resets_own = reset_row (reset_of b p.values c)
       (commanded b p (Reset c) (asked.Reset (record { number = c }))) refl

@@ -31,8 +31,8 @@ use Rattle.psci_world_spec.specs.Legal.{legal_record}
 use Rattle.psci_world_spec.proofs.Scripts.{board, computing, one_core}
 use Rattle.psci_port.specs.Port.{Act, Locks, Unlocks, Calls, Enters, Takes, Finishes, Port}
 use Rattle.psci_port.specs.Port.{TakesUp, Stands, Arms, Sleeps, Delivers, Wakes, Resets, Writes}
-use Rattle.psci_port.specs.Port.{Rouses, Rises, Turns, Opens, Cuts, Restarts, Reboots, cold, gone_to}
-use Rattle.psci_port.specs.Port.{state, step}
+use Rattle.psci_port.specs.Port.{Rouses, Rises, Turns, Opens, Cuts, Restarts, Reboots, cold}
+use Rattle.psci_port.specs.Port.{gone_to, state, step}
 use Rattle.psci_port.specs.Stages as stages
 use Rattle.psci_port.specs.Stages.{Stage, executes, looks}
 use Rattle.psci_enter.specs.declared.post.Post.TheVariants.{Waiting, Entering, Running, Leaving}
@@ -109,64 +109,66 @@ written_otherwise is = none-some (start 1) (sym is.start)
 
 -- A firmware -------------------------------------------------------------------------------------
 
-module _ (f : FirmwareValue) where
-  -- made anew it knows no life, the controller's is later, and no core calls
-  knows_a_life : (seen f).life ≡ 1 → IsAnew board f (cold board []) → ⊥
-  knows_a_life life is =
-      eqb-false 1 0 refl (sym life ∙ ap (λ (v : Values). v.life) is.values)
+-- made anew it knows no life, the controller's is later, and no core calls
+knows_a_life : (f : FirmwareValue) → (seen f).life ≡ 1 → IsAnew board f (cold board []) → ⊥
+knows_a_life f life is =
+    eqb-false 1 0 refl (sym life ∙ ap (λ (v : Values). v.life) is.values)
 
-  abbrev entered : Port
-  entered = record (cold board []) { past = legal_record board [] (events.Enter 0) ∷ [] }
+abbrev entered : Port
+entered = record (cold board []) { past = legal_record board [] (events.Enter 0) ∷ [] }
 
-  no_later_life : IsAnew board f entered → ⊥
-  unfolding computing
-  no_later_life is = let low : 1 < 1 = is.later 1 refl in absurd (omega (arith, low))
+no_later_life : (f : FirmwareValue) → IsAnew board f entered → ⊥
+unfolding computing
+no_later_life f is = let low : 1 < 1 = is.later 1 refl in absurd (omega (arith, low))
 
-  a_core_runs : IsAnew board f (gone_to (cold board []) 3 stages.Normal) → ⊥
-  a_core_runs is = is.none 3 refl
+a_core_runs : (f : FirmwareValue) → IsAnew board f (gone_to (cold board []) 3 stages.Normal) → ⊥
+a_core_runs f is = is.none 3 refl
 
-  of_another_board : f.board ≡ one_core → IsFirmwareOf board f (cold board []) → ⊥
-  of_another_board is of = eqb-false 1 4 refl (ap cores (sym is) ∙ ap cores of.board)
+of_another_board : (f : FirmwareValue) → f.board ≡ one_core
+    → IsFirmwareOf board f (cold board []) → ⊥
+of_another_board f is of = eqb-false 1 4 refl (ap cores (sym is) ∙ ap cores of.board)
 
-  of_another_life : (seen f).life ≡ 3 → IsFirmwareOf board f (cold board []) → ⊥
-  unfolding computing
-  of_another_life life of = elim of.values [
-    | inl same ↦ eqb-false 3 0 refl (sym life ∙ ap (λ (v : Values). v.life) same)
-    | inr anew ↦ eqb-false 3 0 refl (sym life ∙ ap (λ (v : Values). v.life) anew.values)
-  ]
+of_another_life : (f : FirmwareValue) → (seen f).life ≡ 3 → IsFirmwareOf board f (cold board [])
+    → ⊥
+unfolding computing
+of_another_life f life of = elim of.values [
+  | inl same ↦ eqb-false 3 0 refl (sym life ∙ ap (λ (v : Values). v.life) same)
+  | inr anew ↦ eqb-false 3 0 refl (sym life ∙ ap (λ (v : Values). v.life) anew.values)
+]
 
-  -- What is outstanding, by the numbers of the cores, and behind them of the system
-  shown : f.board ≡ board → (outstanding_in f 3 ≡ (seen f).outstanding (OfCore 3))
-      × (outstanding_in f 4 ≡ (seen f).outstanding OfSystem) × (outstanding_in f 5 ≡ None)
-  shown is = (
-    ap (λ b. message_shown b (seen f) 3) is,
-    ap (λ b. message_shown b (seen f) 4) is,
-    ap (λ b. message_shown b (seen f) 5) is,
-  )
+-- What is outstanding, by the numbers of the cores, and behind them of the system
+shown : (f : FirmwareValue) → f.board ≡ board
+    → (outstanding_in f 3 ≡ (seen f).outstanding (OfCore 3))
+    × (outstanding_in f 4 ≡ (seen f).outstanding OfSystem) × (outstanding_in f 5 ≡ None)
+shown f is = (
+  ap (λ b. message_shown b (seen f) 3) is,
+  ap (λ b. message_shown b (seen f) 4) is,
+  ap (λ b. message_shown b (seen f) 5) is,
+)
 
-  abbrev ack : AckValue
-  ack = record {
-    kind = kinds.Down;
-    core = core 3;
-    life = 1;
-    number = 1;
-    applied = 1;
-    stale = false;
-  }
+abbrev ack : AckValue
+ack = record {
+  kind = kinds.Down;
+  core = core 3;
+  life = 1;
+  number = 1;
+  applied = 1;
+  stale = false;
+}
 
-  -- What is asked leaves the board, and what the definitions say of the values
-  goes_to_another_board : (g : FirmwareValue) → f.board ≡ board → g.board ≡ one_core
-      → IsAsked 0 (calls.Take ack) f g → ⊥
-  goes_to_another_board g old new is =
-      eqb-false 1 4 refl (ap cores (sym new) ∙ ap cores is.board ∙ ap cores old)
+-- What is asked leaves the board, and what the definitions say of the values
+goes_to_another_board : (f g : FirmwareValue) → f.board ≡ board → g.board ≡ one_core
+    → IsAsked 0 (calls.Take ack) f g → ⊥
+goes_to_another_board f g old new is =
+    eqb-false 1 4 refl (ap cores (sym new) ∙ ap cores is.board ∙ ap cores old)
 
-  comes_to_another_life : (g : FirmwareValue) → seen f ≡ start_of_life board 0
-      → (seen g).life ≡ 3 → IsAsked 0 (calls.Take ack) f g → ⊥
-  unfolding answer after
-  comes_to_another_life g old new is =
-      eqb-false 3 0 refl (sym new ∙ ap (λ (v : Values). v.life) is.values
-      ∙ ap (λ v. (after f.board 0 (calls.Take ack) (answer f.board v 0 (calls.Take ack)) v).life)
-      old)
+comes_to_another_life : (f g : FirmwareValue) → seen f ≡ start_of_life board 0
+    → (seen g).life ≡ 3 → IsAsked 0 (calls.Take ack) f g → ⊥
+unfolding answer after
+comes_to_another_life f g old new is =
+    eqb-false 3 0 refl (sym new ∙ ap (λ (v : Values). v.life) is.values
+    ∙ ap (λ v. (after f.board 0 (calls.Take ack) (answer f.board v 0 (calls.Take ack)) v).life)
+    old)
 
 -- An act -----------------------------------------------------------------------------------------
 

@@ -31,7 +31,8 @@ same_outcome n o =
     ap (λ x. record { act = o.act; message = x }) (same_message n o.message)
 
 module _ (b : BoardValue) (more : (e : FwExchange) (h : List FwExchange)
-    → values_of b (e ∷ h) ≡ after b e.core e.call e.reply (values_of b h)) (past : List Record) where
+    → values_of b (e ∷ h) ≡ after b e.core e.call e.reply (values_of b h))
+    (past : List Record) where
   pub called_values : (c : ℕ) (regs : Regs) (n : ℕ) (r : FwReply)
       → firmware_values b (record { event = Call c regs; said = said_of n r } ∷ past)
       ≡ after b c (calls.Smc regs) r (firmware_values b past)

@@ -10,6 +10,7 @@ ghost use Rattle.psci_board.specs.declared.node.Core.{Core};
 ghost use Rattle.psci_ctl_spec.specs.Effects.{effect_of};
 ghost use Rattle.psci_ctl_spec.specs.Replies.{last_start, reply};
 ghost use Rattle.psci_ctl_spec.specs.declared.call.CtlCall.TheVariants as asked;
+ghost use Rattle.psci_enter.specs.Again.{outstanding_in};
 ghost use Rattle.psci_enter.specs.Orders.{is_suspending};
 ghost use Rattle.psci_enter.specs.Side.{IsAsked, at, found, fresh, heard, looked, may_look};
 ghost use Rattle.psci_enter.specs.Side.{replied, reply_in};
@@ -31,7 +32,7 @@ ghost use Rattle.psci_messages.specs.declared.start.Start.{Start};
 ghost use Rattle.psci_port.specs.Port.{Act, Arms, Calls, Delivers, Enters, Finishes, Port, Reboots};
 ghost use Rattle.psci_port.specs.Port.{Resets, Restarts, Rises, Rouses, Sleeps, Stands, Takes};
 ghost use Rattle.psci_port.specs.Port.{TakesUp, Turns, Wakes, cold, stage_at, state, words};
-ghost use Rattle.psci_port.specs.Rules.{AreTrue, HasLock, IsPortRun, LacksLock, May};
+ghost use Rattle.psci_port.specs.Rules.{AreTrue, HasLock, IsPortRun, IsTrue, LacksLock, May};
 ghost use Rattle.psci_port.specs.Stages as stages;
 ghost use Rattle.psci_world_spec.specs.Histories.{acks, sent};
 ghost use Rattle.psci_world_spec.specs.Legal.{said_of};
@@ -41,8 +42,8 @@ ghost use Rattle.psci_world_spec.specs.declared.said.Record.{Record};
 
 use psci_board::law_sizes;
 use psci_ctl_spec::law_values;
-use psci_fw_laws::law_new_life;
-use psci_headline::{law_agreement, law_never_refused};
+use psci_fw_laws::{law_new_life, law_outstanding};
+use psci_headline::{law_agreement, law_never_refused, law_sent};
 use psci_port::law_port;
 
 /// What a core's monitor asks of the firmware keeps the rules of a port and is true, whether the
@@ -93,6 +94,15 @@ pub fn law_firmware()
     // A firmware that was made anew takes no acknowledgement, as if that had been lost.
     ensures lost { (b : BoardValue) (p : Port) (f g : FirmwareValue) (c : ℕ) (a : AckValue)
         → f.board ≡ b → IsAnew b f p → IsAsked c (calls.Take a) f g → IsFirmwareOf b g p }
+    // What is sent once more was sent: the mailbox invents nothing by it.
+    ensures again { (b : BoardValue) (acts : List Act) (f : FirmwareValue) (number : ℕ)
+        (m : MessageValue) → IsBoard b → IsPortRun b acts → AreTrue b acts
+        → IsFirmwareOf b f (state b acts) → outstanding_in f number ≡ Some m
+        → (k : ℕ) × IsTrue b (state b acts) (Delivers k m) }
+    // So each act makes the run longer.
+    ensures runs { (b : BoardValue) (acts : List Act) (s : FirmwareSide) (act : Act)
+        → IsPortRun b acts → AreTrue b acts → IsRightly b acts s act
+        → IsPortRun b (act ∷ acts) × AreTrue b (act ∷ acts) }
     ensures never_refused { (b : BoardValue) (acts : List Act) (f : FirmwareValue)
         (s : FirmwareSide) (fault : FwFault) → IsBoard b → IsPortRun b acts → AreTrue b acts
         → IsFirmwareOf b f (state b acts) → IsSideOf b s (state b acts)
@@ -106,6 +116,8 @@ pub fn law_firmware()
     law_sizes();
     law_new_life();
     law_never_refused();
+    law_outstanding();
+    law_sent();
 }
 
 /// What a core's monitor does without the firmware keeps the rules of a port: it takes up each

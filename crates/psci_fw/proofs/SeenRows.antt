@@ -1,7 +1,7 @@
 -- Worked examples of what is read of a firmware, of the way on of a core that enters, and of what a
 -- suspended core leaves.
-use Rattle.std.proofs.Common.{◌≡◌, ℕ, ◌<◌, ◌≤◌, [], ◌∷◌, map, true, false, None, Some, refl, ap, arith}
-use Rattle.std.proofs.Common.{Option, ◌==◌}
+use Rattle.std.proofs.Common.{◌≡◌, ℕ, ◌<◌, ◌≤◌, [], ◌∷◌, map, true, false, None, Some, refl, ap}
+use Rattle.std.proofs.Common.{arith, Option, ◌==◌}
 use Rattle.std.specs.Prelude.{if◌then◌else◌}
 use Rattle.psci_board.specs.Board.{up}
 use Rattle.psci_board.specs.declared.node.Node.{Node}

@@ -8,6 +8,10 @@ use Rattle.psci_enter.specs.SideOf.{core_of}
 use Rattle.psci_enter.proofs.Asking.{call_passes, calls_so, enters_so, entry_passes, lost_ack}
 use Rattle.psci_enter.proofs.Asking.{takes_so}
 use Rattle.psci_enter.proofs.Ending.{called_done, entered_done, taken_done}
+use Rattle.psci_enter.proofs.Sending.{sends_again}
+use Rattle.psci_world_spec.proofs.Answered.{firmware_legal}
+use Rattle.psci_world_spec.specs.Histories.{firmware_history}
+use Rattle.psci_fw_spec.specs.Sent.{sent_messages}
 use Rattle.psci_enter.proofs.Steps.{firmware_after, rightly}
 use Rattle.psci_enter.proofs.laws.law_firmware.Goals as goal
 
@@ -76,6 +80,21 @@ returns-clause-never_refused c = λ b acts f s fault board run so of is.
     c.law_never_refused.ensures b (state b acts).past board mirror.legal.0 in (
       λ regs post refused. call_passes b (state b acts) (run_kept b acts run) mirror free f s of is
           regs fault post refused,
-      λ start post refused. entry_passes b (state b acts) (run_kept b acts run) mirror free f s of is
+      λ start post refused. entry_passes b (state b acts) (run_kept b acts run) mirror free f s of
+          is
           (c.law_new_life.ensures.answer b) start fault post refused,
     )
+
+pub returns-clause-again : goal.returns-clause-again
+returns-clause-again c = λ b acts f number m board run so of out.
+    let mirror : IsMirror b (state b acts) =
+    run_world b (c.law_values.ensures.first b) (c.law_values.ensures.more b)
+    (c.law_values-2.ensures.more b) (λ has. (c.law_sizes.ensures b has).some 0) acts run so in
+    sends_again b (state b acts) f number m of
+    (sent_messages b (firmware_history b (state b acts).past))
+    (c.law_sent.ensures b (state b acts).past mirror.legal.0)
+    (c.law_outstanding.ensures b (firmware_history b (state b acts).past) board
+    (firmware_legal b (state b acts).past mirror.legal.0)) out
+
+pub returns-clause-runs : goal.returns-clause-runs
+returns-clause-runs c = λ b acts s act run so is. ((is.may, run), (is.so, so))
