@@ -2,6 +2,7 @@
 use Rattle.std.specs.Prelude.{◌≡◌, ◌⊎◌, ◌≤◌, ℕ, List, ◌∷◌, ◌++◌, Some, slice_index}
 use Rattle.psci_platform.specs.Platforms.{PlatformValue}
 use Rattle.psci_platform.specs.States.{depth_at as class_depth, states_of}
+use Rattle.psci_platform.specs.psci_state.Ask.{power_down}
 use Rattle.psci_headline.specs.Moments.{depth_at}
 use Rattle.psci_headline.specs.psci_board.Board.{height}
 use Rattle.psci_headline.specs.psci_messages.declared.part.Part.{Part}
@@ -83,7 +84,7 @@ pub record WasAskedFor (p : PlatformValue) (past : List Record) (mpidr level lif
 pub record IsFromStart (p : PlatformValue) (past : List Record) (mpidr level depth : ℕ)
     : Type 0 where
   pub off_path : AreBeside p mpidr level p.boot → ⊥
-  pub deep : depth ≡ 3
+  pub deep : depth ≡ power_down
   pub live : starts_below p.board (controller_values p.board (numbered p past)).starts
       (domain_above p mpidr level) ≡ 0
 

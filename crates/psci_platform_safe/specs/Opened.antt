@@ -3,6 +3,7 @@ use Rattle.std.specs.Prelude.{◌≡◌, ◌⊎◌, ℕ, List, [], ◌∷◌, �
 use Rattle.std.specs.Prelude.{slice_index}
 use Rattle.psci_platform.specs.Platforms.{PlatformValue}
 use Rattle.psci_platform.specs.States.{depth_at, states_of}
+use Rattle.psci_platform.specs.psci_state.Ask.{power_down}
 use Rattle.psci_headline.specs.psci_abi.Calls.{request_of}
 use Rattle.psci_headline.specs.psci_abi.Codes.{success}
 use Rattle.psci_headline.specs.psci_abi.declared.registers.Regs.{Regs}
@@ -31,7 +32,7 @@ pub record ByCpuOn (r : Record) (mpidr : ℕ) (o : Opening) : Type 0 where
 pub record IsPowerDown (p : PlatformValue) (mode : SuspendMode) (word : ℕ) : Type 0 where
   pub states : List ℕ
   pub row : states_of p.description mode word ≡ Some states
-  pub deep : depth_at p.description 0 (slice_index states 0) ≡ 3
+  pub deep : depth_at p.description 0 (slice_index states 0) ≡ power_down
 
 -- a CPU_SUSPEND that powers its caller down, or a SYSTEM_SUSPEND, with this entry point and context
 -- id, in which the caller stopped
