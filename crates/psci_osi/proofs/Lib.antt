@@ -2,4 +2,5 @@ mod Climbs
 mod Counts
 mod Gathered
 mod Refusals
+mod Siblings
 mod WorseRows

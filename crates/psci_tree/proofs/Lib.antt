@@ -1,5 +1,6 @@
 pub mod Asks
 pub mod Below
+pub mod BelowRows
 pub mod Bounds
 pub mod Built
 pub mod Changed

@@ -17,7 +17,7 @@ root = record { level = 2; place = 0 }
 abbrev cluster : Node
 cluster = record { level = 1; place = 1 }
 
-abbrev at_start : TreeValue
+abbrev pub at_start : TreeValue
 at_start = start_of_life levels
 
 abbrev first_asks : TreeValue

@@ -2,7 +2,7 @@
 
 ghost use Rattle.std.specs.Prelude.{◌≡◌, ℕ, ◌^◌, ◌<◌, length, replicate, slice_set};
 ghost use Rattle.std.specs.List.{count_by};
-ghost use Rattle.psci_tree.specs.declared.domain.Domain.{Domain};
+ghost use Rattle.psci_tree.specs.declared.domain.Domain.{Domain, out-Domain};
 ghost use Rattle.psci_state.specs.declared.cores.CoreState.{CoreState};
 ghost use Rattle.psci_tree.specs.Recount.{is_away, never_started};
 ghost use Rattle.psci_tree.specs.Domains.{leaves, cores_in, child_counts, index_by};
@@ -23,6 +23,13 @@ pub struct Domain {
 }
 
 impl Domain {
+    /// How many cores below are running or pending.
+    pub fn active(&self) -> u32
+        ensures { result ≡ (out-Domain self.now).kept.active }
+    {
+        self.kept.active
+    }
+
     /// Puts the core that a way leads to, so many levels down, into another state. This was kept of
     /// it before, and that is kept after. Children are looked at where the numbers of the cores
     /// below do not tell what they ask.

@@ -58,11 +58,13 @@ impl Model for Tree {
 }
 
 ghost use Rattle.std.specs.Prelude.{◌≡◌, ℕ, ◌<◌, ◌≤◌, map, length, replicate, IfOk, slice_index};
-ghost use Rattle.psci_board.specs.Board.{IsBoard, size_below, HasNodeIn, below_in};
+ghost use Rattle.psci_board.specs.Board.{BoardValue, IsBoard, size_below, HasNodeIn, below_in};
+ghost use Rattle.psci_board.specs.declared.node.Node.{Node};
 ghost use Rattle.psci_tree.specs.declared.domain.Domain.{Domain, out-Domain};
 ghost use Rattle.psci_tree.specs.Recount.{IsDomainTree, state_at, known_at, low, known, active};
 ghost use Rattle.psci_tree.specs.Recount.{off, granted_at, confirmed_at, is_confirmed_at};
 ghost use Rattle.psci_tree.specs.Recount.{never_started};
+ghost use Rattle.psci_tree.specs.Below.{IsBelow, IsOfNode};
 ghost use Rattle.psci_tree.specs.Beside.{AreFull};
 ghost use Rattle.psci_tree.specs.Changes.{all_off, start_of_life};
 ghost use Rattle.psci_tree.specs.Domains.{IsWhole, leaves};
@@ -142,6 +144,16 @@ impl Tree {
         ensures { result ≡ active self.now node }
     {
         self.domain(node).kept.active
+    }
+
+    /// The domains one level below a domain, from left to right, by one way down to it.
+    pub fn below(&self, node: Node) -> &[Domain]
+        requires { HasNodeIn self.now.levels node }
+        ensures { (b : BoardValue) (m : Node) (k : ℕ) → IsBelow self.now.levels b node m k
+            → IsOfNode self.now result.now m k }
+    {
+        law_spans();
+        &domain_at(&self.root, &self.board, node).children
     }
 
     /// How many cores below a domain are off or going off.
