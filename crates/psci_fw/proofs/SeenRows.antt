@@ -23,7 +23,8 @@ use Rattle.psci_messages.specs.Slots.Slot.{OfCore}
 use Rattle.psci_fw_state.specs.Seen.{values_in}
 use Rattle.psci_fw.specs.Calls.{MayCall}
 use Rattle.psci_fw.specs.Halts.{IsOfSystem}
-use Rattle.psci_fw.specs.Seen.{FirmwareValue, IsFresh, hw_shown, life_shown, status_shown}
+use Rattle.psci_fw.specs.Seen.{FirmwareValue, IsFirmware, IsFresh, hw_shown, life_shown}
+use Rattle.psci_fw.specs.Seen.{status_shown}
 use Rattle.psci_fw.specs.Suspending.{left_by_suspend}
 use Rattle.psci_fw.specs.Ways.{way_by, way_on}
 use Rattle.psci_fw_state.proofs.KeptRows.{board}
@@ -109,6 +110,10 @@ halting_before_a_life h =
 started_before_a_life : IsFresh board (record (start_of_life board 0) { known = λ c. 1 }) → ⊥
 started_before_a_life h =
     let e : ◌≡◌ {A = ℕ} 1 0 = ap (λ (x : Values). x.known 0) (h.same refl) in omega arith
+
+-- nor are they those of a firmware
+firmware_before_a_life : IsFirmware (firmware 0) → ⊥
+firmware_before_a_life h = values_before_a_life h.fresh
 
 -- Ways on -----------------------------------------------------------------------------------------
 
