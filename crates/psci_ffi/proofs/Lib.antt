@@ -12,6 +12,7 @@ pub mod MachineAxisRows
 pub mod MachineMaking
 mod MachineRows
 mod NamingRows
+mod NewRows
 mod PollerRows
 mod ReaderRows
 pub mod SlotEmpty

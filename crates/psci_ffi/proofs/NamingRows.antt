@@ -8,7 +8,6 @@ use Rattle.psci_fw_spec.specs.declared.call.FwCall.{FwCall}
 use Rattle.psci_platform.specs.declared.asked.Asked.TheVariants.{Nothing, States}
 use Rattle.psci_platform.specs.Platforms.{PlatformValue}
 use Rattle.psci_status.specs.Polled.{IsNext, PolledView}
-use Rattle.psci_ffi.specs.declared.answer.Answer.{Answer}
 use Rattle.psci_ffi.specs.declared.asked.GivenAsked.{GivenAsked}
 use Rattle.psci_ffi.specs.declared.naming.Naming.TheVariants.{Board, Machine}
 use Rattle.psci_ffi.specs.Frames.{IsTakenBy}

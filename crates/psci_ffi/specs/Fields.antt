@@ -7,6 +7,7 @@ use Rattle.psci_messages.specs.declared.parts.TheConstants.{MOST_PARTS}
 use Rattle.psci_messages.specs.declared.kind.Kind.{Kind}
 use Rattle.psci_messages.specs.declared.kind.Kind.TheVariants.{Down, Start, Off, Reset}
 use Rattle.psci_messages.specs.Message.{is_climbing, is_falling, most_applied}
+use Rattle.psci_state.specs.Ask.{power_down}
 use Rattle.psci_link.specs.declared.fault.FrameFault.{FrameFault}
 use Rattle.psci_link.specs.declared.frame.Frame.{Frame}
 use Rattle.psci_link.specs.declared.frame.Frame.TheVariants.{Message, Ack}
@@ -85,7 +86,7 @@ parts_given m = map part_given (take m.count m.parts)
 
 -- a message of this kind may have these parts, of which there are four at most
 abbrev pub has_parts : Kind → List Part → Bool
-has_parts Down ps = nat_lt 0 (length ps) && is_climbing 0 ps && is_falling 3 ps
+has_parts Down ps = nat_lt 0 (length ps) && is_climbing 0 ps && is_falling power_down ps
 has_parts Start ps = length ps == 0
 has_parts Off ps = length ps == 0
 has_parts Reset ps = length ps == 0

@@ -1,7 +1,6 @@
 -- What C is told, and what a call leaves in a place.
 use Rattle.std.specs.Prelude.{◌≡◌, ℕ, ℤ, true, false, pos, Option, None, Some}
 use Rattle.std.specs.Prelude.{[], ◌∷◌, Result, Ok, Err, IsOk, IsSomeAnd, option_map, replicate}
-use Rattle.psci_abi.specs.declared.code.Code.{Code}
 use Rattle.psci_abi.specs.declared.registers.Regs.{Regs}
 use Rattle.psci_board.specs.Board.{BoardValue, cores}
 use Rattle.psci_board.specs.declared.fault.BoardFault.{BoardFault}
@@ -16,7 +15,6 @@ use Rattle.psci_fw_spec.specs.declared.reply.FwReply.TheVariants.{Out, Taken, Fa
 use Rattle.psci_fw_spec.specs.declared.status.Status.TheVariants.{Off}
 use Rattle.psci_fw_spec.specs.Answer.{answer}
 use Rattle.psci_fw_spec.specs.Lives.{start_of_life}
-use Rattle.psci_fw_spec.specs.Outcomes.{returns}
 use Rattle.psci_link.specs.declared.frame.Frame.TheVariants.{Message}
 use Rattle.psci_link.specs.Frame.{frame_bytes}
 use Rattle.psci_messages.specs.Message.{MessageValue}
@@ -28,6 +26,7 @@ use Rattle.psci_ffi.specs.Codes.{cause_said, no_cause, no_firmware, refusal}
 use Rattle.psci_ffi.specs.Namings.{PlaceValue, asked_in, board_of, machine_of, regs_in}
 use Rattle.psci_platform.specs.declared.asked.Asked.{Asked}
 use Rattle.psci_platform.specs.declared.asked.Asked.TheVariants.{Nothing, States, Reset}
+use Rattle.psci_platform.specs.Platforms.{PlatformValue}
 use Rattle.psci_status.specs.Polled.{IsNext, PolledView}
 use Rattle.psci_ffi.specs.Slot.{Kept}
 
@@ -149,15 +148,19 @@ pub record IsNew (b : BoardValue) (f : PolledView) : Type 0 where
   pub values : seen f.firmware ≡ start_of_life b 0
   pub written : f.written ≡ replicate (cores b) (Off ∷ [])
 
+-- the same in a place, with the machine whose words it has, if there is one
+pub record IsNewPlace (b : BoardValue) (words : Option PlatformValue) (f : PlaceValue)
+    : Type 0 where
+  pub fresh : IsNew b f.polled
+  pub machine : f.machine ≡ words
+
 -- the same in these words
-pub record IsNewIn (naming : Naming) (f : PlaceValue) : Type 0 where
-  pub fresh : IsNew (board_of naming) f.polled
-  pub machine : f.machine ≡ machine_of naming
+abbrev pub IsNewIn : Naming → PlaceValue → Type 0
+IsNewIn naming = IsNewPlace (board_of naming) (machine_of naming)
 
 -- the same in the board's own words
-pub record IsNewOn (b : BoardValue) (f : PlaceValue) : Type 0 where
-  pub fresh : IsNew b f.polled
-  pub machine : f.machine ≡ None
+abbrev pub IsNewOn : BoardValue → PlaceValue → Type 0
+IsNewOn b = IsNewPlace b None
 
 -- the place has the new firmware of the board of this text, in its own words
 abbrev pub IsOpened : Result BoardValue BoardFault → Kept → Type 0

@@ -3,7 +3,6 @@
 ghost use Rattle.std.specs.Prelude.{◌≡◌, option_map};
 ghost use Rattle.psci_fw.specs.Reactions.{reply_in};
 ghost use Rattle.psci_fw.specs.Seen.{seen};
-ghost use Rattle.psci_messages.specs.Message.{MessageValue};
 ghost use Rattle.psci_ffi.specs.Shown.{act_shown, frame_shown, no_frame, plain};
 ghost use Rattle.psci_ffi.specs.Shown.{refused, shown, with_asked};
 

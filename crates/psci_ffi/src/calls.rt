@@ -1,7 +1,6 @@
 //! The calls of the cores, and the acknowledgements of the power controller.
 
-ghost use Rattle.std.specs.Prelude.{◌≡◌, None, Some};
-ghost use Rattle.psci_messages.specs.Message.{AckValue, MessageValue};
+ghost use Rattle.std.specs.Prelude.{◌≡◌, Some};
 ghost use Rattle.psci_ffi.specs.Frames.{IsTakenIn};
 ghost use Rattle.psci_ffi.specs.Shown.{IsAfter, IsSameRefused, answered, called_in, regs_given};
 ghost use Rattle.psci_ffi.specs.Shown.{start_called, told_in, with_asked};

@@ -3,9 +3,8 @@
 ghost use Rattle.std.specs.Prelude.{◌≡◌, ◌<◌, Option};
 ghost use Rattle.psci_board.specs.Board.{cores};
 ghost use Rattle.psci_ctl.specs.Seen.{seen};
-ghost use Rattle.psci_messages.specs.Message.{AckValue};
 ghost use Rattle.psci_ffi.specs.ControllerShown.{ack_frame, cause_number, plain, refused};
-ghost use Rattle.psci_ffi.specs.ControllerShown.{no_domain, no_start, start_shown, started};
+ghost use Rattle.psci_ffi.specs.ControllerShown.{start_shown, started};
 
 use crate::answer::{SomeFrame, no_frame};
 use psci_board::Core;

@@ -1,6 +1,6 @@
 //! What reaches a power controller: messages, wake-ups and resets.
 
-ghost use Rattle.std.specs.Prelude.{◌≡◌, None, Some};
+ghost use Rattle.std.specs.Prelude.{None, Some};
 ghost use Rattle.psci_ctl_spec.specs.declared.call.CtlCall.TheVariants.{Reset, Wake};
 ghost use Rattle.psci_ffi.specs.ControllerCalls.{IsGivenTo, IsKicked};
 
@@ -8,7 +8,6 @@ use crate::codes::{NO_FIRMWARE, refusal};
 use crate::controller_acting::{give, reset, wake};
 use crate::controller_answer::{ControllerAnswer, refuse};
 use crate::controller_place::ControllerPlace;
-use psci_board::Core;
 use psci_fw::FwFault;
 
 /// Delivers the message whose frame these bytes are. From 16 on it was refused, and nothing

@@ -13,12 +13,10 @@ use crate::fields::{Fields, PartFields};
 use psci_board::Core;
 use psci_link::{Frame, encode};
 use psci_messages::{Ack, Kind, MOST_PARTS, Message, Part, Parts};
+use psci_state::POWER_DOWN;
 
 /// How many cores a frame can name.
 const MOST_NAMED: u16 = 256;
-
-/// The deepest depth, power-down.
-const POWER_DOWN: u8 = 3;
 
 /// Writes the frame of these fields, of a message or of an acknowledgement; none where they are
 /// those of no frame. Parts that are not counted are not looked at, nor is a part of an

@@ -1,11 +1,11 @@
 //! What is wrong with a board that C gives.
 
-ghost use Rattle.std.specs.Prelude.{◌≡◌, ◌==◌, ◌&&◌, ◌%◌, ◌^◌, ◌-◌, map, nat_le, nat_lt};
+ghost use Rattle.std.specs.Prelude.{◌≡◌, ◌==◌, ◌&&◌, ◌%◌, ◌^◌, ◌-◌, map, nat_le};
 ghost use Rattle.std.specs.List.{list_all, list_any};
 ghost use Rattle.psci_board.specs.Board.{is_in_some, size_below};
 ghost use Rattle.psci_board.specs.Verdict.{is_limit, is_out_of_width};
 ghost use Rattle.psci_ffi.specs.Given.{fault_given, has_bad_range, has_levels, is_even};
-ghost use Rattle.psci_ffi.specs.Given.{level_given, levels_given, range_given, ranges_given};
+ghost use Rattle.psci_ffi.specs.Given.{level_given, range_given, ranges_given};
 
 use crate::given::{GivenBoard, GivenLevel, GivenRange};
 use psci_board::{BoardFault, MOST_CHILDREN, MOST_CORES, MOST_LEVELS, MOST_LIVES, MOST_RANGES};

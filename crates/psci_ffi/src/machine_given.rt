@@ -1,6 +1,6 @@
 //! What a machine calls its cores, power states and functions, as C gives it: a struct of numbers.
 
-ghost use Rattle.std.specs.Prelude.{◌≡◌, map, take};
+ghost use Rattle.std.specs.Prelude.{◌≡◌, take};
 ghost use Rattle.psci_ffi.specs.Machines.{all_classes, class_given, classes_given};
 ghost use Rattle.psci_ffi.specs.Machines.{functions_given, has_room, row_given};
 
