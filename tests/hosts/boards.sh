@@ -95,7 +95,7 @@ board_faults() {
         [ "$check $machine" != "board-lists $1" ] || listed_fault "$1" "$name" "$text"
         [ "$check $machine" = "board $1" ] || continue
         say "Linux at EL3: the board $1, the fault $name"
-        EL3_OUT=$work/el3-fault hosts/el3/run --board "$1" --seconds $((60 + 3 * took)) --lives 2 --fault "$name" each reboot > "$work/out" 2>&1
+        EL3_OUT=$work/el3-fault hosts/el3/run --board "$1" --seconds $((30 + 2 * took)) --lives 2 --fault "$name" each reboot > "$work/out" 2>&1
         if grep -q -- "$text" "$work/out"; then pass; else
             fail "hosts/el3/run --board $1 --fault $name does not say '$text'"
             tail -n 5 "$work/out"
