@@ -51,8 +51,8 @@ figures() {
         head -n 40 "$work/out"
     fi
     [ -d "$work/figures" ] || return
-    overlooked "a call takes less" maintain/COSTS.md 's/^\(| CPU_SUSPEND, OS-initiated | [0-9,]* | [0-9,]* | \)[0-9,]*/\11,499/' \
-        'CPU_SUSPEND, OS-initiated, 256: docs/maintain/COSTS.md says 1,499'
+    overlooked "a call takes less" maintain/COSTS.md 's/^\(| CPU_SUSPEND, OS-initiated | [0-9,]* | [0-9,]* | \)[0-9,]*/\11,199/' \
+        'CPU_SUSPEND, OS-initiated, 256: docs/maintain/COSTS.md says 1,199'
     overlooked "a call is not there" maintain/COSTS.md '/^| SYSTEM_SUSPEND, stops |/d' 'SYSTEM_SUSPEND, stops: docs/maintain/COSTS.md does not say'
     overlooked "a call that there is not" maintain/COSTS.md 's/^| CPU_OFF, stops |/| CPU_GONE, stops |/' 'CPU_GONE, stops: .* there is none'
     overlooked "a turn takes less" maintain/COSTS.md 's/^\(| SYSTEM_SUSPEND, wake-up | \)[0-9,]*/\1600/' 'wake-up, 4 cores: .* says 600'
