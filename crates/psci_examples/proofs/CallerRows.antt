@@ -1,12 +1,8 @@
--- Worked examples of who calls the firmware, of calls whose first argument is read already, and of
--- what a reaction and a suspend leave.
-use Rattle.std.proofs.Common.{◌≡◌, ◌≤◌, ℕ, List, [], ◌∷◌, Option, true, false, None, Some}
+-- Worked examples of who calls the firmware, and of what a reaction and a suspend leave.
+use Rattle.std.proofs.Common.{◌≡◌, ◌≤◌, ℕ, List, [], ◌∷◌, Option, false, None, Some}
 use Rattle.std.proofs.Common.{Ok, refl, ap, arith, pos}
-use Rattle.psci_board.specs.Board.{BoardValue, IsBoard, core_of, up}
-use Rattle.psci_board.specs.declared.node.Core.{Core}
+use Rattle.psci_board.specs.Board.{BoardValue, IsBoard, up}
 use Rattle.psci_fw.specs.declared.reaction.Reaction.{Reaction}
-use Rattle.psci_fw.specs.psci_abi.declared.registers.Regs.{Regs}
-use Rattle.psci_fw.specs.psci_abi.declared.request.Request.TheVariants as requests
 use Rattle.psci_fw.specs.psci_fw_spec.Changes.{Rest}
 use Rattle.psci_fw.specs.psci_fw_spec.Claims.{suspend_parts}
 use Rattle.psci_fw.specs.psci_fw_spec.Invariant.{AreValues}
@@ -19,7 +15,6 @@ use Rattle.psci_fw.specs.psci_fw_spec.declared.status.Status.TheVariants.{On, Of
 use Rattle.psci_fw.specs.psci_fw_spec.psci_abi.declared.format.Format.TheVariants.{Original}
 use Rattle.psci_fw.specs.Calls.{IsCaller}
 use Rattle.psci_fw.specs.Reactions.{IsReaction}
-use Rattle.psci_fw.specs.Read.{CallsOn, CallsSuspend, IsOnOf, IsSuspendOf}
 use Rattle.psci_fw.specs.Seen.{FirmwareValue}
 use Rattle.psci_fw.specs.Suspending.{MaySuspend, Suspends}
 use Rattle.psci_fw_state.specs.Seen.{values_in}
@@ -80,65 +75,6 @@ calls_not = (
   λ h. never_less 0 h.board.some_starts,
   λ h. never_less 4 h.inside,
   λ h. let e : phases.Pending ≡ phases.Running = h.running in absurd cc,
-)
-
--- Calls that are read ---------------------------------------------------------------------------
-
-abbrev call : ℕ → ℕ → Regs
-call word first = record { x0 = word; x1 = first; x2 = 48; x3 = 7 }
-
-abbrev core : ℕ → Core
-core number = record { number = number }
-
--- the word 0x100 names core 2, the first one of the second cluster
-second_cluster : IsOnOf board (call 0xC4000003 0x100) (core 2)
-unfolding core_of
-second_cluster = record { request = refl; named = refl; inside = omega arith }
-
-abbrev number_of : Option Core → ℕ
-number_of None = 0
-number_of (Some it) = it.number
-
--- another function; another core; and one that the board does not have
-not_on_of : ¬ (IsOnOf board (call 0xC4000004 0x100) (core 2))
-    × ¬ (IsOnOf board (call 0xC4000003 0x100) (core 3))
-    × ¬ (IsOnOf board (call 0xC4000003 0x100) (core 4))
-unfolding core_of
-not_on_of = (
-  λ h. let e : requests.AffinityInfo 48 0x100 ≡ requests.CpuOn 0x100 48 7 = h.request in absurd cc,
-  λ h. apart_by number_of h.named refl,
-  λ h. never_less 4 h.inside,
-)
-
--- the call is carried out; not of a core that is pending, and not of another core than is named
-boot_core_turns_on : CallsOn firmware 0 (call 0xC4000003 0x100) (core 2)
-unfolding values_in
-boot_core_turns_on = record { call = refl; on = second_cluster }
-
-turns_not_on : ¬ (CallsOn firmware 1 (call 0xC4000003 0x100) (core 2))
-    × ¬ (CallsOn firmware 0 (call 0xC4000003 0x100) (core 4))
-unfolding values_in
-turns_not_on = (λ h. let e : false ≡ true = h.call in absurd cc, λ h. not_on_of.2 h.on)
-
--- core 0 asks for retention of itself
-retention : IsSuspendOf board (call 0xC4000001 0x2) (2 ∷ 0 ∷ 0 ∷ 0 ∷ [])
-retention = record { request = refl; asked = refl }
-
-turns_on_in_its_place : IsSuspendOf board (call 0xC4000003 0x2) (2 ∷ 0 ∷ 0 ∷ 0 ∷ []) → ⊥
-turns_on_in_its_place h =
-    let e : requests.CpuOn 0x2 48 7 ≡ requests.CpuSuspend 0x2 48 7 = h.request in absurd (cc)
-
-boot_core_sleeps : CallsSuspend firmware 0 (call 0xC4000001 0x2) (2 ∷ 0 ∷ 0 ∷ 0 ∷ [])
-unfolding values_in
-boot_core_sleeps = record { call = refl; suspend = retention }
-
--- a core that is pending, and by another call
-sleeps_not : ¬ (CallsSuspend firmware 1 (call 0xC4000001 0x2) (2 ∷ 0 ∷ 0 ∷ 0 ∷ []))
-    × ¬ (CallsSuspend firmware 0 (call 0xC4000003 0x2) (2 ∷ 0 ∷ 0 ∷ 0 ∷ []))
-unfolding values_in
-sleeps_not = (
-  λ h. let e : false ≡ true = h.call in absurd cc,
-  λ h. turns_on_in_its_place h.suspend,
 )
 
 -- Reactions -------------------------------------------------------------------------------------
