@@ -8,11 +8,15 @@
 #![tactic(auto)]
 
 mod arrival;
+mod guest;
 mod laws;
 mod pair;
 mod steps;
+mod turned;
 
 pub use arrival::Arrival;
+pub use guest::GuestPower;
 pub use laws::law_turns;
 pub use pair::Pair;
 pub use steps::law_steps;
+pub use turned::Turned;

@@ -1,0 +1,34 @@
+-- The power of a guest: what its methods answer, turn by turn.
+use Rattle.std.specs.Prelude.{◌≡◌, List, ◌∷◌, Option, Some}
+use Rattle.psci_board.specs.Board.{BoardValue}
+use Rattle.psci_world_spec.specs.declared.said.Record.{Record}
+use Rattle.psci_world_spec.specs.Histories.{controller_values}
+use Rattle.psci_world_spec.specs.Legal.{legal}
+use Rattle.psci_guest.specs.declared.turned.Turned.{Turned}
+use Rattle.psci_guest.specs.Arrivals.{AreArrivals, kept_after, SaysAct}
+use Rattle.psci_guest.specs.Pair.{PairValue, board_of, kept_by}
+use Rattle.psci_guest.specs.Turns.{Turn, event_of, exchange, turn, turns}
+
+-- The machine after these turns, newest first.
+pub record IsAfter (b : BoardValue) (ts : List Turn) (p : PairValue) : Type 0 where
+  pub board : board_of p ≡ b
+  pub kept : kept_by p ≡ kept_after b (turns b ts)
+
+-- what holds of each: there are such turns
+pub record HasTurns (p : PairValue) : Type 0 where
+  pub turns : List Turn
+  pub is : IsAfter (board_of p) turns p
+
+-- What is told of a call.
+pub record IsTold (b : BoardValue) (past : List Record) (t : Turn) (told : Turned) : Type 0 where
+  pub act : SaysAct (legal b past (event_of t)) told.act
+  pub arrival : AreArrivals b (exchange b past (event_of t)) told.arrival
+  pub life : told.life ≡ (controller_values b (turn b past t)).life
+
+-- A turn was made, of which this is told.
+pub record IsTurned (b : BoardValue) (ts : List Turn) (t : Turn) (new : PairValue)
+    (result : Option Turned) : Type 0 where
+  pub told : Turned
+  pub is : result ≡ Some told
+  pub tells : IsTold b (turns b ts) t told
+  pub after : IsAfter b (t ∷ ts) new
