@@ -1,16 +1,22 @@
 -- Worked examples: which core runs, which one was started and enters, and what is not settled.
-use Rattle.std.proofs.Common.{◌∷◌, ◌≡◌, [], ap, arith, List, None, Option, refl, Some, sym, ℕ}
+use Rattle.std.proofs.Common.{◌++◌, ◌∷◌, ◌≡◌, [], ap, arith, List, None, Option, refl, Some, sym, ℕ}
 use Rattle.std.proofs.lemmas.Option.{none-some}
 use Rattle.psci_messages.specs.declared.start.Cause.TheVariants as causes
 use Rattle.psci_messages.specs.declared.start.Start.{Start}
+use Rattle.psci_messages.specs.declared.kind.Kind.TheVariants.{Down}
+use Rattle.psci_fw_spec.specs.declared.hw.Hw.TheVariants as hws
 use Rattle.psci_fw_spec.specs.declared.outcome.Act.TheVariants as acts
 use Rattle.psci_world_spec.specs.declared.event.Event.{Event}
-use Rattle.psci_world_spec.specs.declared.event.Event.TheVariants.{Deliver, Enter}
+use Rattle.psci_world_spec.specs.declared.event.Event.TheVariants.{Deliver, Enter, Take}
 use Rattle.psci_world_spec.specs.declared.said.Record.{Record}
 use Rattle.psci_world_spec.specs.declared.said.Said.TheVariants.{Absent, Fw, Ignored}
 use Rattle.psci_world_spec.specs.Legal.{run_from}
 use Rattle.psci_world_spec.proofs.Scripts as scripts
-use Rattle.psci_world_spec.proofs.Scripts.{board, on_3}
+use Rattle.psci_world_spec.proofs.Scripts.{acked, board, call, off, on_3, system_off, tall, value}
+use Rattle.psci_world_spec.proofs.Scripts.{version}
+use Rattle.psci_headline.proofs.Checking.{◌⇒◌, Legal, past_from}
+use Rattle.psci_headline.proofs.Histories.{at, third_on}
+use Rattle.psci_headline.proofs.Untold.{computing}
 use Rattle.psci_guest.specs.declared.arrival.Arrival.{Arrival}
 use Rattle.psci_guest.specs.Arrivals.{AreArrivals, IsArrival, RunsIn, SaysAct}
 use Rattle.psci_guest.specs.Turns.{IsSettled}
@@ -88,3 +94,32 @@ start_waits is = none-some _ (sym ((is.rest 1 refl).own 3 (omega arith)))
 core_waits : IsSettled board (after (Enter 0 ∷ on_3 ∷ Deliver 0 ∷ [])) → ⊥
 unfolding scripts.computing
 core_waits is = (is.rest 1 refl).entered 3 (omega arith) refl
+
+-- a record says that nothing came of a call that was answered
+no_answer : IsSettled board (record { event = version 0; said = Absent } ∷ after (Enter 0 ∷ [])) → ⊥
+unfolding scripts.computing
+no_answer is = let said = is.legal.0 in absurd (cc)
+
+-- core 3 is OFF, and is answered as if it ran
+answered_off : IsSettled board (past_from board []
+    (Legal (third_on ++ off 3 ∷ Deliver 1 ∷ Take 1 ∷ []) ∷ version 3 ⇒ value 0x10001 ∷ [])) → ⊥
+unfolding scripts.computing
+answered_off is = (is.safe.0.off 3 (omega arith) refl).0 refl
+
+-- on three levels the system is off, and was acknowledged of what is below it alone
+system_off_untold : IsSettled tall (past_from tall []
+    (Legal (Enter 0 ∷ call 0 0xc4000001 0x03013333 0x40000100 0 ∷ Deliver 0 ∷ [])
+    ∷ Deliver 0 ⇒ acked 1 Down 0 1 1 3 true ∷ Legal (Take 1 ∷ []) ∷ [])) → ⊥
+unfolding computing
+system_off_untold is =
+    let no : hws.On ≡ hws.Off = (is.told 1 refl).hw (at 3 0)
+    (record { level = omega arith; place = omega arith }) in
+    cc
+
+-- a core enters behind the end of the last life
+enters_behind : IsSettled board (record {
+  event = Enter 0;
+  said = Fw (acts.Enter 0x40000000 0) None;
+} ∷ after (Enter 0 ∷ system_off 0 ∷ Deliver 0 ∷ [])) → ⊥
+unfolding scripts.computing
+enters_behind is = let place = is.over refl 0 in absurd (cc)

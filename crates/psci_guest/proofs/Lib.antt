@@ -11,6 +11,8 @@ pub mod Tied
 pub mod Events
 pub mod Doors
 pub mod Stepping
+pub mod Keeping
+pub mod Guests
 -- Worked examples.
 mod ArrivalRows
 mod PairRows

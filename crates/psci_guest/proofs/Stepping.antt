@@ -8,7 +8,9 @@ use Rattle.psci_headline.proofs.Words.{reply_or, request_of, same_Some}
 use Rattle.psci_headline.proofs.Words.{MessageValue, nat_tests, None, Option, Record, refl, Regs}
 use Rattle.psci_headline.proofs.Words.{Running, sent, Some, Start, Started, Stopped, subst, sym}
 use Rattle.psci_headline.proofs.Words.{true, Values, ℕ}
+use Rattle.std.specs.Prelude.{◌&&◌, ◌==◌, Bool, is_some, not}
 use Rattle.psci_board.specs.declared.node.Core.{Core}
+use Rattle.psci_ctl_spec.specs.Replies.{is_this_life}
 use Rattle.psci_ctl_spec.specs.Values as controlled
 use Rattle.psci_fw_spec.specs.Answer.{answer}
 use Rattle.psci_fw_spec.specs.Entering.{enter_outcome}
@@ -29,7 +31,7 @@ use Rattle.psci_ctl_spec.specs.declared.call.CtlCall.TheVariants as asked
 use Rattle.psci_ctl_spec.specs.Legal.{IsOfBoard}
 use Rattle.psci_fw_spec.specs.Phases as phases
 use Rattle.psci_guest.specs.Arrivals.{AreArrivals, kept_after, RunsIn, SaysAct}
-use Rattle.psci_guest.specs.Pair.{arrival_of, message_of, runs_in, waiting_in}
+use Rattle.psci_guest.specs.Pair.{arrival_of, message_of, runs_in, stands_in, waiting_in}
 use Rattle.psci_guest.specs.Steps.{AreSteps, call_reply, entry_after, IsCallStep, IsDoor, IsDoorOf}
 use Rattle.psci_guest.specs.Steps.{IsKickStep}
 use Rattle.psci_guest.specs.Turns.{arrived, Calls, event_of, exchange, IsSettled, Resets}
@@ -44,6 +46,19 @@ use Rattle.psci_guest.proofs.Landing.{HasLanded}
 use Rattle.psci_guest.proofs.Tied.{IsMore, reply_sends}
 use Rattle.psci_guest.proofs.Turning.{arriving_case, begun_by, exchanged, first_landed, home}
 use Rattle.psci_guest.proofs.Turning.{IsHome}
+
+-- Tests
+not_false : (t : Bool) → not t ≡ false → t ≡ true
+not_false true e = refl
+not_false false e = absurd (false≢true (sym e))
+
+not_true : (t : Bool) → not t ≡ true → t ≡ false
+not_true true e = absurd (false≢true e)
+not_true false e = refl
+
+and_false : (t : Bool) → (t && false) ≡ false
+and_false true = refl
+and_false false = refl
 
 -- an outcome is said as it is
 says : (n : ℕ) (o : Outcome) → SaysAct (said_of n (replies.Out o)) o.act
@@ -173,6 +188,9 @@ module _ (b : BoardValue) (ts : List Turn) (laws : TurnLaws b) (more : IsMore b)
       record {
         sound = sound;
         kept = call_kept b past c regs more on runs.place;
+        free = λ f e.
+            let is = call_out b past c regs laws is_home.legal on runs.place in
+            let no : replies.Out is.0 ≡ replies.Fault f = sym is.1 ∙ e in absurd (cc);
         act = λ o e.
             subst (λ s. SaysAct s o.act) (sym (said ∙ ap (said_of (length (sent past))) e)) refl;
         door = doors b (exchange b past (Call c regs))
@@ -236,6 +254,48 @@ module _ (b : BoardValue) (ts : List Turn) (laws : TurnLaws b) (more : IsMore b)
       let yes : runs_in (kept_after b past) life c ≡ true = grind (arith, nat_tests, eq-eqb) in
       false≢true (sym e ∙ yes)
 
+  -- Who stands ------------------------------------------------------------------------------------
+
+  -- the firmware says that a core runs
+  said_running : ℕ → Bool
+  said_running c = phases.is_running ((firmware_values b past).phase c)
+
+  moves_so : (c : ℕ) → c < cores b → stands_in (kept_after b past) c ≡ false
+      → place b past c ≡ Running
+  moves_so c on e = by (controller_values b past).life refl
+    where
+      by : (o : Option ℕ) → (controller_values b past).life ≡ o → place b past c ≡ Running
+      by None f =
+          let no : true ≡ false = ap (λ o. not (is_some o && said_running c)) (sym f) ∙ e in
+          absurd (false≢true (sym no))
+      by (Some life) f =
+          let says = not_false _ (ap (λ o. not (is_some o && said_running c)) (sym f) ∙ e) in
+          let same : runs_in (kept_after b past) life c ≡ ((life == life) && said_running c) =
+          ap (λ o. is_this_life o life && said_running c) f in
+          let yes : ((life == life) && said_running c) ≡ true =
+          ap (λ t. t && said_running c) (eq-eqb life life refl) ∙ says in
+          (runs_so c life on (same ∙ yes)).place
+
+  rests_so : (c : ℕ) → c < cores b → stands_in (kept_after b past) c ≡ true
+      → place b past c ≡ Stopped
+  rests_so c on e = by (place b past c) refl
+    where
+      in_life_of : place b past c ≡ Running → (o : Option ℕ) → (controller_values b past).life ≡ o
+          → place b past c ≡ Stopped
+      in_life_of at None f =
+          (laws.settle.past past is_home.legal).given.agreed.stopped f c
+      in_life_of at (Some life) f =
+          let stands = not_true _ (ap (λ o. not (is_some o && said_running c)) (sym f) ∙ e) in
+          let no : runs_in (kept_after b past) life c ≡ false =
+          ap (λ t. is_this_life (controller_values b past).life life && t) stands
+          ∙ and_false (is_this_life (controller_values b past).life life) in
+          absurd (stands_so c life on no (record { present = f; place = at }))
+
+      by : (p : Place) → place b past c ≡ p → place b past c ≡ Stopped
+      by Running f = in_life_of f (controller_values b past).life refl
+      by Started f = absurd (is_home.entered c on f)
+      by Stopped f = f
+
 pub steps : (b : BoardValue) → TurnLaws b → IsMore b
     → ((ts : List Turn) → IsSettled b (turns b ts)) → AreSteps b
 unfolding turns
@@ -254,6 +314,8 @@ steps b laws more settled = record {
   first = door b [] 0 laws more (first_landed b) laws.settle.some;
   runs = λ ts c life on e. runs_so b ts laws more c life on e;
   stands = λ ts c life on e runs. stands_so b ts laws more c life on e runs;
+  moves = λ ts c on e. moves_so b ts laws more c on e;
+  rests = λ ts c on e. rests_so b ts laws more c on e;
   call = λ ts c life regs on runs. call_step b ts laws more c life regs on runs;
   wake = λ ts c on at. wake_step b ts laws more c on at;
   reset = λ ts c on. reset_step b ts laws more c on;

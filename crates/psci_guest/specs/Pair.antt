@@ -1,6 +1,6 @@
 -- Firmware and power controller as one: what both keep, and what an exchange leaves of it.
 use Rattle.std.specs.Prelude.{◌≡◌, ℕ, Bool, ◌==◌, ◌&&◌, nat_le, if◌then◌else◌, Option, None}
-use Rattle.std.specs.Prelude.{Some, option_and_then}
+use Rattle.std.specs.Prelude.{Some, is_some, not, option_and_then}
 use Rattle.psci_board.specs.Board.{BoardValue, IsBoard}
 use Rattle.psci_board.specs.declared.node.Core.{Core}
 use Rattle.psci_messages.specs.Message.{MessageValue}
@@ -98,6 +98,10 @@ pub record IsLeft (old new : PairValue) (k : Kept) : Type 0 where
 -- a core runs, in this life
 abbrev pub runs_in : Kept → ℕ → ℕ → Bool
 runs_in k life c = is_this_life k.controller.life life && is_running (k.firmware.phase c)
+
+-- a core stands: it runs in no life
+abbrev pub stands_in : Kept → ℕ → Bool
+stands_in k c = not (is_some k.controller.life && is_running (k.firmware.phase c))
 
 -- the firmware knows of this start of a core
 abbrev pub is_known : Kept → ℕ → Start → Bool

@@ -32,9 +32,11 @@ impl Model for GuestPower {
 ghost use Rattle.std.specs.Prelude.{◌≡◌, ◌<◌, [], IfOk, List, None, option_map};
 ghost use Rattle.psci_board.specs.Board.{BoardValue, cores};
 ghost use Rattle.psci_guest.specs.Arrivals.{AreArrivals, RunsIn};
-ghost use Rattle.psci_guest.specs.Guest.{IsAfter, IsTurned};
+ghost use Rattle.psci_guest.specs.Guest.{IsAfter, IsKicked, IsTurned};
 ghost use Rattle.psci_guest.specs.Pair.{board_of};
-ghost use Rattle.psci_guest.specs.Turns.{Calls, Turn, started_by, turns};
+ghost use Rattle.psci_guest.specs.Turns.{Calls, Resets, Turn, Wakes, started_by, turns};
+ghost use Rattle.psci_world_spec.specs.Places.{place};
+ghost use Rattle.psci_world_spec.specs.declared.place.Place.TheVariants.{Running};
 
 impl GuestPower {
     /// The power of a guest of this board, as it comes on, and how its boot core enters.
@@ -46,6 +48,13 @@ impl GuestPower {
         let mut pair = Pair::new(alloc, board)?;
         let arrival = pair.arrive(Core { number: 0 });
         Ok((GuestPower { pair }, arrival))
+    }
+
+    /// Firmware and power controller, as the last turn left them.
+    pub fn pair(&self) -> &Pair
+        ensures { result.now ≡ self.now }
+    {
+        &self.pair
     }
 
     /// A core that runs in this life calls with these registers: what comes of it. None of a call
@@ -75,6 +84,36 @@ impl GuestPower {
             arrival,
             life: self.pair.controller().life(),
         })
+    }
+
+    /// A core that stands has a wake-up event: how it enters, or None where it is not started: no
+    /// life is left, or it was started as often as it can be. None of a core that runs, too, and
+    /// nothing changes.
+    pub fn wake(&mut self, core: Core) -> Option<Arrival>
+        requires { core.number < cores (board_of self.old) }
+        ensures running { (b : BoardValue) (ts : List Turn) → IsAfter b ts self.old
+            → place b (turns b ts) core.number ≡ Running → (result ≡ None) × (self.new ≡ self.old) }
+        ensures woken { (b : BoardValue) (ts : List Turn) → IsAfter b ts self.old
+            → (place b (turns b ts) core.number ≡ Running → ⊥)
+            → IsKicked b ts (Wakes core.number) self.new result }
+    {
+        law_steps();
+        if !self.pair.stands(core) {
+            return None;
+        }
+        self.pair.wake(core);
+        self.pair.arrive(core)
+    }
+
+    /// A core is reset by itself: how it enters, or None where it is not started, as at `wake`.
+    pub fn reset(&mut self, core: Core) -> Option<Arrival>
+        requires { core.number < cores (board_of self.old) }
+        ensures { (b : BoardValue) (ts : List Turn) → IsAfter b ts self.old
+            → IsKicked b ts (Resets core.number) self.new result }
+    {
+        law_steps();
+        self.pair.reset(core);
+        self.pair.arrive(core)
     }
 }
 

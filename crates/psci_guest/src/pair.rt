@@ -29,7 +29,7 @@ impl Model for Pair {
 }
 
 ghost use Rattle.std.specs.Prelude.{◌≡◌, ◌<◌, IfOk, None, Some, option_map};
-ghost use Rattle.psci_board.specs.Board.{cores};
+ghost use Rattle.psci_board.specs.Board.{IsBoard, cores};
 ghost use Rattle.psci_ctl.specs.Seen.{seen as seen_controller};
 ghost use Rattle.psci_ctl_spec.specs.Changes as changes;
 ghost use Rattle.psci_ctl_spec.specs.Legal.{IsOfBoard};
@@ -44,13 +44,15 @@ ghost use Rattle.psci_fw_spec.specs.declared.call.FwCall.TheVariants as calls;
 ghost use Rattle.psci_messages.specs.Message.{MessageValue};
 ghost use Rattle.psci_messages.specs.declared.start.Start as starts;
 ghost use Rattle.psci_guest.specs.Pair.{IsLeft, SendsSound, board_of, kept_by, with_call};
-ghost use Rattle.psci_guest.specs.Pair.{arrival_of, entry_reply, runs_in, waiting_in, with_message};
+ghost use Rattle.psci_guest.specs.Pair.{arrival_of, entry_reply, runs_in, stands_in, waiting_in};
+ghost use Rattle.psci_guest.specs.Pair.{with_message};
 
 impl Pair {
     /// Firmware and power controller of this board, as the machine comes on: the firmware is in no
     /// life, and the boot core is started.
     pub fn new(alloc: Global, board: &Board) -> Result<Pair, Memory>
         ensures board { IfOk result (λ p. board_of p ≡ board.now) }
+        ensures sound { IfOk result (λ p. IsBoard (board_of p)) }
         ensures kept { IfOk result (λ p. kept_by p ≡ (record {
           firmware = lives.start_of_life board.now 0;
           controller = controlled.start_of_life board.now;
@@ -109,6 +111,13 @@ impl Pair {
         ensures { result ≡ runs_in (kept_by self.now) life core.number }
     {
         self.controller.life() == Some(life) && self.firmware.running(core)
+    }
+
+    /// Whether a core stands: it runs in no life.
+    pub fn stands(&self, core: Core) -> bool
+        ensures { result ≡ stands_in (kept_by self.now) core.number }
+    {
+        !(self.controller.life().is_some() && self.firmware.running(core))
     }
 
     /// A core enters that was started, if it was: how it does, or None, and nothing changes.
