@@ -15,5 +15,6 @@ pub mod Keeping
 pub mod Guests
 -- Worked examples.
 mod ArrivalRows
+mod GuestRows
 mod PairRows
 mod TurnRows

@@ -257,7 +257,7 @@ module _ (b : BoardValue) (ts : List Turn) (laws : TurnLaws b) (more : IsMore b)
   -- Who stands ------------------------------------------------------------------------------------
 
   -- the firmware says that a core runs
-  said_running : ℕ → Bool
+  abbrev said_running : ℕ → Bool
   said_running c = phases.is_running ((firmware_values b past).phase c)
 
   moves_so : (c : ℕ) → c < cores b → stands_in (kept_after b past) c ≡ false
