@@ -165,17 +165,17 @@ module _ (b : BoardValue) (past : List Record) (old : PairValue) (is : Keeps b p
             told = subst (λ a. AreArrivals b past a) (sym same.0) (door.none shut);
           }
       by (Some s) e =
-          let open = waits (Some s) e in
+          let at = waits (Some s) e in
           let reply = answered b past old is core.number (calls.Enter s) in record {
             keeps = asked_keeps b past old is core.number (calls.Enter s)
                 (entry_reply old core.number s) new (arrived b past)
-                (door.enters s open
+                (door.enters s at
                 ∙ ap (λ r. with_call b core.number (calls.Enter s) r (kept_after b past))
                 (sym reply))
                 (has.left s e);
             told = subst (λ a. AreArrivals b past a)
                 (ap (arrival_of core s) (sym reply) ∙ sym (has.told s e))
-                (door.told s core refl open);
+                (door.told s core refl at);
           }
 
 -- the same where one core may have been started, or none is
