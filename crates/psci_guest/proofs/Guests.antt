@@ -32,10 +32,10 @@ use Rattle.psci_guest.proofs.Keeping.{answered, arrives, Arrives, arrives_by, as
 use Rattle.psci_guest.proofs.Keeping.{enters_sound, HasArrived, HasCalled, HasKicked, IsGiven, kick_keeps, sound}
 
 -- what the power controller is asked
-abbrev resets : Core → controlled.Values → CtlCall
+abbrev pub resets : Core → controlled.Values → CtlCall
 resets core w = asked.Reset core
 
-abbrev wakes : Core → controlled.Values → CtlCall
+abbrev pub wakes : Core → controlled.Values → CtlCall
 wakes core w = asked.Wake core (w.starts core.number)
 
 -- A turn ------------------------------------------------------------------------------------------
@@ -184,7 +184,7 @@ module _ (b : BoardValue) (ts : List Turn) (core : Core) (old : PairValue)
 
 -- As it comes on ----------------------------------------------------------------------------------
 
-abbrev boot : Core
+abbrev pub boot : Core
 boot = record { number = 0 }
 
 -- What is so of what is new.

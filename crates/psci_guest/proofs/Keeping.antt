@@ -193,7 +193,7 @@ arrives_by b past old new (Some core) r is door has =
 -- A wake-up event, or a reset ---------------------------------------------------------------------
 
 -- what is left of it, by the question that it is
-abbrev kicked : (controlled.Values → CtlCall) → BoardValue → CtlReply → Kept → Kept
+abbrev pub kicked : (controlled.Values → CtlCall) → BoardValue → CtlReply → Kept → Kept
 kicked f b r k = record {
   firmware = k.firmware;
   controller = changes.after b (f k.controller) r k.controller;

@@ -4,6 +4,7 @@ use Rattle.std.proofs.Common.{◌∙◌, ap, refl, subst, sym}
 use Rattle.psci_board.specs.Board.{BoardValue, cores}
 use Rattle.psci_board.specs.declared.node.Core.{Core}
 use Rattle.psci_fw_spec.specs.declared.reply.FwReply.TheVariants as replies
+use Rattle.psci_ctl.specs.Seen.{ControllerValue, seen}
 use Rattle.psci_guest.specs.Pair.{board_of}
 use Rattle.psci_guest.specs.Turns.{Calls, started_by}
 use Rattle.psci_guest.proofs.Guests.{call_free, call_sound, call_turn, in_present, not_in_present}
@@ -124,7 +125,7 @@ returns-clause-turned c = λ b ts after runs.
           c.started_by.result c.match-started_by.arrival w.in-None.is
           (ap (λ g. g.pair) w.self-inside-is) w.arrival-is
     ])
-    c.life.ensures
+    (c.life.ensures ∙ ap (λ (w : ControllerValue). (seen w).life) c.controller.ensures)
 
 pub invariant_of-self-2 : goal.invariant_of-self-2
 invariant_of-self-2 c =
@@ -154,4 +155,4 @@ invariant_of-self-2 c =
           c.started_by.result c.match-started_by.arrival w.in-None.is
           (ap (λ g. g.pair) w.self-inside-is) w.arrival-is
     ])
-    c.life.ensures).after
+    (c.life.ensures ∙ ap (λ (w : ControllerValue). (seen w).life) c.controller.ensures)).after
