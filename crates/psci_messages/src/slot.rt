@@ -42,6 +42,17 @@ impl Slot {
         }
     }
 
+    /// A slot that has this.
+    pub fn of(message: Option<Message>) -> Slot
+        ensures { result ≡ message }
+    {
+        let mut slot = Slot::empty();
+        if let Some(message) = message {
+            slot.fill(message);
+        }
+        slot
+    }
+
     /// The message in it.
     pub fn message(&self) -> Option<&Message>
         ensures { option_map (λ message. message.now) result ≡ self.now }

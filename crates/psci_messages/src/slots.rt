@@ -46,6 +46,26 @@ impl Slots {
         })
     }
 
+    /// The slots that hold these messages: one of each core, in the order of their numbers, and one
+    /// of the system.
+    pub fn of(
+        alloc: Global,
+        cores: &[Option<Message>],
+        system: Option<Message>,
+    ) -> Result<Slots, Memory>
+        ensures { IfOk result (λ slots. slots ≡ record { cores = cores.now; system = system }) }
+    {
+        let cores = slots_of(alloc, cores)?;
+        let mut last = no_message(alloc)?;
+        if let Some(message) = system {
+            last.fill(message);
+        }
+        Ok(Slots {
+            cores,
+            system: last,
+        })
+    }
+
     /// Notes that this message was sent: the one before it in its slot is forgotten.
     pub fn put(&mut self, message: Message)
         requires { IsOfCores (length self.old.cores) (slot_of message.kind message.core) }
@@ -148,6 +168,17 @@ impl Slots {
             Kind::Off | Kind::Reset => self.system.message(),
         }
     }
+}
+
+/// A slot for each of these messages.
+fn slots_of(alloc: Global, messages: &[Option<Message>]) -> Result<Vec<Slot>, Memory>
+    ensures { IfOk result (λ slots. slots.items ≡ messages.now) }
+{
+    let mut slots = Vec::with_capacity(alloc, messages.len())?;
+    for message in messages {
+        slots.push(Slot::of(*message))?;
+    }
+    Ok(slots)
 }
 
 /// So many empty slots.

@@ -1,11 +1,10 @@
 -- Domains put together level by level, from the cores up.
-use Rattle.std.proofs.lemmas.List.{replicate_more}
 use Rattle.std.proofs.lemmas.List.Sums.{sum_by_push}
 use Rattle.psci_tree.proofs.Words.{◌++◌, ◌+◌, ◌∙◌, ◌∷◌, ◌≡◌, ◌≤◌, [], ap, append-nil, arith}
 use Rattle.psci_tree.proofs.Words.{branches, child_count, child_counts, cores_in, CoreState, Domain}
 use Rattle.psci_tree.proofs.Words.{Domain-F, drop, drop_all, flat_map, flat_map-append}
 use Rattle.psci_tree.proofs.Words.{flat_map_single, HasShape, IsWhole, leaves, length, length_push}
-use Rattle.psci_tree.proofs.Words.{List, map, map-append, refl, replicate, roll-Domain, size_below}
+use Rattle.psci_tree.proofs.Words.{List, map, map-append, refl, roll-Domain, size_below}
 use Rattle.psci_tree.proofs.Words.{suc, sum, sym, take, take_all, ℕ}
 use Rattle.psci_tree.proofs.Below.{children_roll, cores_roll_core}
 
@@ -48,17 +47,11 @@ pub counts_push : (ps : List Domain) (x : Domain-F Domain)
     ≡ map child_count ps ++ length x.children.items ∷ []
 counts_push ps x = simp (map-append, child_count_roll)
 
--- one more core that is off
-pub cores_push : (ns : List Domain) (x : Domain-F Domain) (n : ℕ) (s : CoreState)
-    → length x.children.items ≡ 0 → x.core ≡ s → cores_in ns ≡ replicate n s
-    → cores_in (ns ++ roll-Domain x ∷ []) ≡ replicate (n + 1) s
-cores_push ns x n s none own h = simp (
-  flat_map-append,
-  cores_roll_core x none,
-  own,
-  h,
-  replicate_more,
-)
+-- one more core
+pub cores_push : (ns : List Domain) (x : Domain-F Domain) (cs : List CoreState) (s : CoreState)
+    → length x.children.items ≡ 0 → x.core ≡ s → cores_in ns ≡ cs
+    → cores_in (ns ++ roll-Domain x ∷ []) ≡ cs ++ s ∷ []
+cores_push ns x cs s none own h = simp (flat_map-append, cores_roll_core x none, own, h)
 
 -- the last level -------------------------------------------------------------------------------
 

@@ -1,7 +1,9 @@
 //! What a tree keeps beside its domains.
 
-ghost use Rattle.std.specs.Prelude.{IfOk};
-ghost use Rattle.psci_tree.specs.Beside.{AreFull};
+ghost use Rattle.std.specs.Prelude.{◌≡◌, IfOk, map};
+ghost use Rattle.psci_tree.specs.Beside.{HoldTree, tree_in, tree_of};
+ghost use Rattle.psci_tree.specs.Changes.{all_off};
+ghost use Rattle.psci_tree.specs.Recount.{IsDomainTree};
 
 use crate::depths::Depths;
 use crate::grants::deepest_rows;
@@ -21,15 +23,39 @@ pub struct Rows {
     pub depths: Vec<Vec<Depths>>,
 }
 
-/// The rows of a board where every core is off, in memory of their own. It has a frame of its own.
+/// The rows of a board where every core is off, and power-down is granted to every domain and confirmed,
+/// in memory of their own. It has a frame of its own.
 #[inline(never)]
 pub fn rows_of(alloc: Global, board: &Board) -> Result<Box<Rows>, Memory>
-    ensures { IfOk result (λ rows. AreFull board.now rows.value) }
+    ensures tree { IfOk result (λ rows. HoldTree board.now rows.value) }
+    ensures value { IfOk result (λ rows.
+        tree_in board.now.levels rows.value ≡ all_off board.now.levels) }
 {
+    let cores = vec![in alloc; NEVER_STARTED; board.cores() as usize]?;
+    let depths = deepest_rows(alloc, board)?;
+    rows_with(alloc, board, cores, depths)
+}
+
+/// The rows of a board whose cores are in these states, and whose domains have these depths, in
+/// memory of their own.
+#[inline(never)]
+pub fn rows_with(
+    alloc: Global,
+    board: &Board,
+    cores: Vec<CoreState>,
+    depths: Vec<Vec<Depths>>,
+) -> Result<Box<Rows>, Memory>
+    requires { IsDomainTree (tree_of board.now.levels cores.items
+        (map (λ v. v.items) depths.items)) }
+    ensures tree { IfOk result (λ rows. HoldTree board.now rows.value) }
+    ensures value { IfOk result (λ rows. tree_in board.now.levels rows.value
+        ≡ tree_of board.now.levels cores.items (map (λ v. v.items) depths.items)) }
+{
+    let ways = ways_of(alloc, board)?;
     let rows = Rows {
-        cores: vec![in alloc; NEVER_STARTED; board.cores() as usize]?,
-        ways: ways_of(alloc, board)?,
-        depths: deepest_rows(alloc, board)?,
+        cores,
+        ways,
+        depths,
     };
     Box::new(alloc, rows).map_err(|_| Memory)
 }

@@ -1,28 +1,27 @@
 //! A tree of power domains in the shape of a board.
 
-ghost use Rattle.std.specs.Prelude.{◌≡◌, map, length, sum, replicate, slice_index_or, [], IfOk};
+ghost use Rattle.std.specs.Prelude.{◌≡◌, map, length, sum, slice_index_or, [], IfOk};
 ghost use Rattle.std.specs.List.{flat_map};
 ghost use Rattle.psci_board.specs.Board.{IsBoard, size_below};
 ghost use Rattle.psci_tree.specs.declared.domain.Domain.{Domain};
-ghost use Rattle.psci_tree.specs.Recount.{never_started};
 ghost use Rattle.psci_tree.specs.Domains.{IsWhole, branches, child_count, leaves, cores_in};
 ghost use Rattle.psci_tree.specs.Kept.{AreKept, IsKept, IsRow};
 
 use crate::domain::{Domain, kept_of};
 use crate::kept::Kept;
 use psci_board::{Board, Memory, Node};
-use psci_state::NEVER_STARTED;
+use psci_state::{CoreState, NEVER_STARTED};
 use std::alloc::Global;
 use std::mem::replace;
 
-/// The domains of a board, every core off and never started.
-fn build(alloc: Global, board: &Board) -> Result<Domain, Memory>
+/// The domains of a board whose cores are in these states.
+fn build(alloc: Global, board: &Board, cores: &[CoreState]) -> Result<Domain, Memory>
+    requires { length cores.now ≡ size_below board.now.levels }
     ensures whole { IfOk result (λ root. IsWhole root board.now.levels) }
-    ensures off { IfOk result (λ root.
-        leaves root ≡ replicate (size_below board.now.levels) never_started) }
+    ensures cores { IfOk result (λ root. leaves root ≡ cores.now) }
     ensures kept { IfOk result (λ root. IsKept root) }
 {
-    let mut row = row_of_cores(alloc, board.cores())?;
+    let mut row = row_of_cores(alloc, cores)?;
     for below in 0..board.height() {
         row = parents_of(alloc, board, below, row)?;
     }
@@ -34,29 +33,33 @@ fn build(alloc: Global, board: &Board) -> Result<Domain, Memory>
 
 /// The same, in memory of its own, and made in a frame of its own.
 #[inline(never)]
-pub fn root_of(alloc: Global, board: &Board) -> Result<Box<Domain>, Memory>
+pub fn root_of(
+    alloc: Global,
+    board: &Board,
+    cores: &[CoreState],
+) -> Result<Box<Domain>, Memory>
+    requires { length cores.now ≡ size_below board.now.levels }
     ensures whole { IfOk result (λ root. IsWhole root.value board.now.levels) }
-    ensures off { IfOk result (λ root.
-        leaves root.value ≡ replicate (size_below board.now.levels) never_started) }
+    ensures cores { IfOk result (λ root. leaves root.value ≡ cores.now) }
     ensures kept { IfOk result (λ root. IsKept root.value) }
 {
-    let root = build(alloc, board)?;
+    let root = build(alloc, board, cores)?;
     Box::new(alloc, root).map_err(|_| Memory)
 }
 
-/// So many cores, off and never started.
-fn row_of_cores(alloc: Global, count: u16) -> Result<Vec<Domain>, Memory>
-    ensures count { IfOk result (λ row. length row.items ≡ count) }
+/// Cores in these states.
+fn row_of_cores(alloc: Global, cores: &[CoreState]) -> Result<Vec<Domain>, Memory>
+    ensures count { IfOk result (λ row. length row.items ≡ length cores.now) }
     ensures leaves { IfOk result (λ row. sum (map child_count row.items) ≡ 0) }
-    ensures off { IfOk result (λ row. cores_in row.items ≡ replicate count never_started) }
+    ensures cores { IfOk result (λ row. cores_in row.items ≡ cores.now) }
     ensures kept { IfOk result (λ row. AreKept row.items) }
 {
     let mut row = Vec::new(alloc);
-    for _ in 0..count {
+    for core in cores {
         row.push(Domain {
             children: Vec::new(alloc),
-            core: NEVER_STARTED,
-            kept: Kept::of_core(&NEVER_STARTED),
+            core: *core,
+            kept: Kept::of_core(core),
         })?;
     }
     Ok(row)

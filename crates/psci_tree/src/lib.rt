@@ -28,6 +28,7 @@ mod standing;
 mod tree;
 mod way;
 
+pub use depths::Depths;
 pub use domain::Domain;
 pub use laws::{
     law_asks, law_confirmed, law_cores, law_counts, law_granted, law_known, law_low,

@@ -1,6 +1,6 @@
 //! The tree of power domains.
 
-use crate::beside::{Rows, rows_of};
+use crate::beside::{Rows, rows_of, rows_with};
 use crate::build::root_of;
 use crate::depths::Depths;
 use crate::descent::{domain_at, standings_on};
@@ -65,7 +65,7 @@ ghost use Rattle.psci_tree.specs.Recount.{IsDomainTree, state_at, known_at, low,
 ghost use Rattle.psci_tree.specs.Recount.{off, granted_at, confirmed_at, is_confirmed_at};
 ghost use Rattle.psci_tree.specs.Recount.{never_started};
 ghost use Rattle.psci_tree.specs.Below.{IsBelow, IsOfNode};
-ghost use Rattle.psci_tree.specs.Beside.{AreFull};
+ghost use Rattle.psci_tree.specs.Beside.{HoldTree, tree_in, tree_of};
 ghost use Rattle.psci_tree.specs.Changes.{all_off, start_of_life};
 ghost use Rattle.psci_tree.specs.Domains.{IsWhole, leaves};
 ghost use Rattle.psci_tree.specs.Kept.{IsKept, Keeps};
@@ -80,30 +80,37 @@ impl Tree {
         ensures levels { IfOk result (λ tree. tree.value.levels ≡ board.now.levels) }
         ensures tree { IfOk result (λ tree. IsDomainTree tree.value) }
     {
-        let root = root_of(alloc, board)?;
         let rows = rows_of(alloc, board)?;
-        let mut tree = Tree::all_off(alloc, board, root, rows)?;
+        let mut tree = Tree::with_rows(alloc, board, rows)?;
         law_sizes();
         tree.set_pending(BOOT_CORE);
         Ok(tree)
     }
 
-    /// The tree of a board, made of these domains and rows: every core is off, and every domain is
-    /// granted depth 3, which is confirmed. It has a frame of its own.
-    #[inline(never)]
-    fn all_off(
+    /// The tree of a board whose cores are in these states, and whose domains have these depths,
+    /// level by level from the cores up.
+    pub fn of(
         alloc: Global,
         board: &Board,
-        root: Box<Domain>,
-        rows: Box<Rows>,
+        cores: Vec<CoreState>,
+        depths: Vec<Vec<Depths>>,
     ) -> Result<Box<Tree>, Memory>
-        requires whole { IsWhole root.value board.now.levels }
-        requires off { leaves root.value ≡ replicate (size_below board.now.levels) never_started }
-        requires kept { IsKept root.value }
-        requires rows { AreFull board.now rows.value }
-        ensures value { IfOk result (λ tree. tree.value ≡ all_off board.now.levels) }
-        ensures board { IfOk result (λ _. IsBoard board.now) }
+        requires { IsDomainTree (tree_of board.now.levels cores.items
+            (map (λ v. v.items) depths.items)) }
+        ensures { IfOk result (λ tree. tree.value ≡ tree_of board.now.levels cores.items
+            (map (λ v. v.items) depths.items)) }
     {
+        let rows = rows_with(alloc, board, cores, depths)?;
+        Tree::with_rows(alloc, board, rows)
+    }
+
+    /// The tree of a board that has these rows. It has a frame of its own.
+    #[inline(never)]
+    fn with_rows(alloc: Global, board: &Board, rows: Box<Rows>) -> Result<Box<Tree>, Memory>
+        requires { HoldTree board.now rows.value }
+        ensures { IfOk result (λ tree. tree.value ≡ tree_in board.now.levels rows.value) }
+    {
+        let root = root_of(alloc, board, &rows.cores)?;
         let rows = Box::into_inner(rows);
         let tree = Tree {
             cores: rows.cores,

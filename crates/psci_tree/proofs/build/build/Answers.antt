@@ -1,8 +1,8 @@
 -- Level by level, the domains of one become the children of the next, up to the system.
 use Rattle.psci_tree.proofs.Words.{◌+◌, ◌<◌, ◌∙◌, ◌≡◌, ◌≤◌, [], AllPass, ap, AreKept, arith}
 use Rattle.psci_tree.proofs.Words.{child_count, cores_in, Domain, drop, drop_all, flat_map_single}
-use Rattle.psci_tree.proofs.Words.{get_or, is_width, IsTree, length, length-map, length-replicate}
-use Rattle.psci_tree.proofs.Words.{level, List, map, never_started, replicate, size_below, subst}
+use Rattle.psci_tree.proofs.Words.{get_or, is_width, IsTree, length, length-map}
+use Rattle.psci_tree.proofs.Words.{level, List, map, size_below, subst}
 use Rattle.psci_tree.proofs.Words.{suc, sum, sym, take, take_more, ℕ}
 use Rattle.psci_tree.proofs.Slices.{cores_down}
 use Rattle.psci_tree.proofs.Built.{shaped_more, ends_more, root_whole, root_cores}
@@ -12,7 +12,7 @@ use Rattle.psci_tree.proofs.build.build.Goals as goal
 pub loop-below-preserved : goal.loop-below-preserved
 loop-below-preserved c =
     let levels : List (List ℕ) = c.args.board.now.levels in
-    let tree : IsTree levels = c.cores.ensures.board.tree in
+    let tree : IsTree levels = c.height-below-end.ensures.board.tree in
     let at : ℕ = c.loop-below.below in
     let fits : at < length levels =
     omega (arith, c.loop-below-test.true, c.height-below-end.ensures.height) in
@@ -29,7 +29,7 @@ loop-below-preserved c =
       ends = ends_more new old at (at + 1) up children c.loop-below.invariant.ends;
       size = rw (up, (level levels at tree fits).above, ← counts, length-map);
       kept = c.in_ok-row-2.ensures.kept;
-      off = cores_down new wide ∙ ap cores_in children ∙ c.loop-below.invariant.off;
+      cores = cores_down new wide ∙ ap cores_in children ∙ c.loop-below.invariant.cores;
     }
 
 pub returns-clause-kept : goal.returns-clause-kept
@@ -42,28 +42,28 @@ loop-below-init c =
     record {
       shape = tt;
       ends = ap sum (flat_map_single child_count row) ∙ c.in_ok-row.ensures.leaves;
-      size = c.in_ok-row.ensures.count ∙ c.cores.ensures.cores;
+      size = c.in_ok-row.ensures.count ∙ c.requires;
       kept = c.in_ok-row.ensures.kept;
-      off = c.in_ok-row.ensures.off ∙ ap (λ n. replicate n never_started) c.cores.ensures.cores;
+      cores = c.in_ok-row.ensures.cores;
     }
 
 pub parents_of-requires-clause-board : goal.parents_of-requires-clause-board
-parents_of-requires-clause-board c = c.cores.ensures.board
+parents_of-requires-clause-board c = c.height-below-end.ensures.board
 
 pub parents_of-requires-clause-row : goal.parents_of-requires-clause-row
 parents_of-requires-clause-row c =
     let row : List Domain = c.loop-below.row.items in
     let levels : List (List ℕ) = c.args.board.now.levels in
-    let tree : IsTree levels = c.cores.ensures.board.tree in
+    let tree : IsTree levels = c.height-below-end.ensures.board.tree in
     let n : ℕ = size_below levels in
     let at : ℕ = c.loop-below.below in
     let all : length (cores_in row) ≡ n =
-    ap length c.loop-below.invariant.off ∙ length-replicate n never_started in
+    ap length c.loop-below.invariant.cores ∙ c.requires in
     let fits : at < length levels =
     omega (arith, c.loop-below-test.true, c.height-below-end.ensures.height) in record {
       level = fits;
       kept = c.loop-below.invariant.kept;
-      few = omega (arith, all, c.cores.ensures.cores, c.cores.type_inv);
+      few = omega (arith, all, c.height-below-end.ensures.board.few);
       children = sym (c.loop-below.invariant.size ∙ (level levels at tree fits).size);
     }
 
@@ -77,12 +77,12 @@ returns-clause-whole c =
     root_whole c.args.board.now.levels at.row.items _ c.in-Some.root at.below (at_end c)
     c.in-Some.ensures.items at.invariant.size at.invariant.shape at.invariant.ends
 
-pub returns-clause-off : goal.returns-clause-off
-returns-clause-off c =
+pub returns-clause-cores : goal.returns-clause-cores
+returns-clause-cores c =
     let at = c.loop-below in
     root_cores c.args.board.now.levels at.row.items _ c.in-Some.root at.below (at_end c)
     c.in-Some.ensures.items at.invariant.size
-    ∙ at.invariant.off
+    ∙ at.invariant.cores
 
 pub unreachable-requires : goal.unreachable-requires
 unreachable-requires c =

@@ -1,6 +1,6 @@
--- The row so far is that of its level, with every core off below it.
+-- The row so far is that of its level, with the cores below it.
 use Rattle.psci_tree.proofs.Words.{◌≡◌, AreKept, child_counts, cores_in, drop, flat_map, length}
-use Rattle.psci_tree.proofs.Words.{never_started, replicate, size_below, sum, take}
+use Rattle.psci_tree.proofs.Words.{size_below, sum, take}
 use Rattle.psci_tree.proofs.Built.{AreShaped}
 use Rattle.psci_tree.proofs.build.build.Given as goal
 
@@ -12,5 +12,5 @@ invariant-loop-below l =
       ends : sum (flat_map (child_counts l.below) l.row.items) ≡ 0;
       size : length l.row.items ≡ size_below (drop l.below levels);
       kept : AreKept l.row.items;
-      off : cores_in l.row.items ≡ replicate (size_below levels) never_started;
+      cores : cores_in l.row.items ≡ l.fn.cores;
     }

@@ -1,12 +1,11 @@
--- The cores so far are off, and have nothing below them.
-use Rattle.psci_tree.proofs.Words.{◌≡◌, AreKept, child_count, cores_in, length, map, never_started}
-use Rattle.psci_tree.proofs.Words.{replicate, sum}
+-- The cores so far are in their states, and have nothing below them.
+use Rattle.psci_tree.proofs.Words.{◌≡◌, AreKept, child_count, cores_in, length, map, sum, take}
 use Rattle.psci_tree.proofs.build.row_of_cores.Given as goal
 
-abbrev pub invariant-loop : goal.invariant-loop
-invariant-loop l = record {
-  count : length l.row.items ≡ l.counter;
+abbrev pub invariant-loop-core : goal.invariant-loop-core
+invariant-loop-core l = record {
+  count : length l.row.items ≡ l.core-index;
   leaves : sum (map child_count l.row.items) ≡ 0;
   kept : AreKept l.row.items;
-  off : cores_in l.row.items ≡ replicate l.counter never_started;
+  cores : cores_in l.row.items ≡ take l.core-index l.cores;
 }
