@@ -66,6 +66,7 @@ ghost use Rattle.psci_fw_spec.specs.Phases.{is_away, is_resumable, is_running};
 ghost use Rattle.psci_board.specs.Board.{IsBoard, cores};
 ghost use Rattle.psci_fw_state.specs.Seen.{is_pending_phase, message_shown, values_in};
 ghost use Rattle.psci_fw_state.specs.Trees.{IsFirstTree};
+ghost use Rattle.psci_tree.specs.Recount.{state_at};
 
 impl State {
     /// The state of this board's firmware before any core has entered, in memory of its own.
@@ -175,6 +176,14 @@ impl State {
         self.rows[core.number as usize].opening
     }
 
+    /// What a core does, as its power domains see it; of one that the board does not have, that it
+    /// is off.
+    pub fn activity(&self, core: Core) -> Activity
+        ensures { result ≡ (state_at self.now.tree core.number).activity }
+    {
+        self.tree.activity(core)
+    }
+
     /// The granted depth of a power domain.
     #[tactic(auto, unfolding(crate::specs::Seen::values_in))]
     pub fn granted(&self, node: Node) -> u8
@@ -204,7 +213,7 @@ impl State {
 
     /// Whether what was granted to a power domain is confirmed.
     #[tactic(auto, unfolding(crate::specs::Seen::values_in))]
-    fn confirmed(&self, node: Node) -> bool
+    pub fn confirmed(&self, node: Node) -> bool
         ensures { result ≡ (values_in self.now).confirmed node.level node.place }
     {
         if node.place < self.board.nodes(node.level) {
