@@ -128,6 +128,22 @@ impl Controller {
         })
     }
 
+    /// Why a core was last started; of one that was not started in this life it says nothing.
+    pub fn cause(&self, core: Core) -> Cause
+        requires { core.number < cores self.now.board }
+        ensures { result ≡ (seen self.now).cause core.number }
+    {
+        self.cores[core.number as usize].cause
+    }
+
+    /// The depth that is kept of a power domain, also without a life, when it says nothing.
+    pub fn kept_depth(&self, node: Node) -> u8
+        requires { HasNode self.now.board node }
+        ensures { result ≡ (seen self.now).depth node.level node.place }
+    {
+        domain(&self.domains, node).depth
+    }
+
     /// How deep a power domain is: 0 fully on, 1 standby, 2 retention, 3 power-down. Without a life
     /// nothing is said of it.
     pub fn depth(&self, node: Node) -> u8

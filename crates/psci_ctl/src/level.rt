@@ -54,6 +54,13 @@ impl Level {
         Ok(Level { rows })
     }
 
+    /// A level of these domains.
+    pub fn of(rows: Vec<DomainRow>) -> Level
+        ensures { result ≡ rows.items }
+    {
+        Level { rows }
+    }
+
     /// What is kept of the domain at `place`; of one that is not there, that it is powered down.
     pub fn row(&self, place: u16) -> DomainRow
         ensures { result ≡ slice_index_or self.now place off_domain }

@@ -10,10 +10,13 @@ mod delivering;
 mod domains;
 mod done;
 mod level;
+mod made;
 mod row;
 mod starting;
 
 pub use controller::Controller;
+pub use made::ControllerParts;
+pub use row::CoreRow;
 pub use psci_board::{Board, Core, Memory, Node};
 pub use psci_ctl_spec::{
     Cause, CtlCall, CtlReply, Delivery, Kick, Start, law_acknowledgements, law_depths, law_limits,

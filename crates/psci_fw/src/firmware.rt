@@ -34,8 +34,8 @@ ghost use Rattle.psci_fw_spec.specs.Answer.{answer, reply_of};
 ghost use Rattle.psci_fw_spec.specs.Lives.{start_of_life};
 ghost use Rattle.psci_fw_spec.specs.Phases.{is_running};
 ghost use Rattle.psci_fw.specs.Reactions.{IsInItsSlot, outcome_in, reply_in};
-ghost use Rattle.psci_fw.specs.Seen.{hw_shown, life_shown, seen, status_shown};
-ghost use Rattle.psci_fw_state.specs.Seen.{message_shown};
+ghost use Rattle.psci_fw.specs.Seen.{IsFirmware, hw_shown, life_shown, seen, status_shown};
+ghost use Rattle.psci_fw_state.specs.Seen.{IsState, message_shown};
 
 use crate::entering::{check_start, enter};
 use crate::laws::law_fresh;
@@ -54,6 +54,23 @@ impl Firmware {
         law_fresh();
         let state = State::new(alloc, board)?;
         Ok(Firmware { state })
+    }
+
+    /// The firmware that has this state.
+    pub fn of(state: Box<State>) -> Firmware
+        requires { IsFirmware state.value }
+        ensures { result ≡ state.value }
+    {
+        Firmware { state }
+    }
+
+    /// Its state.
+    pub fn state(&self) -> &State
+        ensures same { result.now ≡ self.now }
+        ensures state { IsState self.now }
+        ensures firmware { IsFirmware self.now }
+    {
+        &self.state
     }
 
     /// A secure monitor call of a core with these registers. All 64 bits of each count as the

@@ -15,9 +15,12 @@ mod claim;
 mod confirm;
 mod counts;
 mod domain;
+mod made;
 mod row;
 mod state;
 mod whole;
 
+pub use made::StateParts;
 pub use psci_coord::Wish;
+pub use row::CoreRow;
 pub use state::State;

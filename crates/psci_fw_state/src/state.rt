@@ -66,6 +66,7 @@ ghost use Rattle.psci_fw_spec.specs.Phases.{is_away, is_resumable, is_running};
 ghost use Rattle.psci_board.specs.Board.{IsBoard, cores};
 ghost use Rattle.psci_fw_state.specs.Seen.{is_pending_phase, message_shown, values_in};
 ghost use Rattle.psci_fw_state.specs.Trees.{IsFirstTree};
+ghost use Rattle.psci_fw_state.specs.Rows.{row_at};
 
 impl State {
     /// The state of this board's firmware before any core has entered, in memory of its own.
@@ -114,6 +115,13 @@ impl State {
         ensures board { IsBoard self.now.board }
     {
         &self.board
+    }
+
+    /// What each core asks, its known start, and what each power domain is granted.
+    pub fn tree(&self) -> &Tree
+        ensures { result.now ≡ self.now.tree }
+    {
+        &self.tree
     }
 
     /// The life of the last start that entered, 0 before any.
@@ -173,6 +181,14 @@ impl State {
         ensures { result ≡ (values_in self.now).opening core.number }
     {
         self.rows[core.number as usize].opening
+    }
+
+    /// What is kept of a core of the board beside the tree of power domains.
+    pub fn row(&self, core: Core) -> CoreRow
+        requires { core.number < cores self.now.board }
+        ensures { result ≡ row_at self.now.rows core.number }
+    {
+        self.rows[core.number as usize]
     }
 
     /// The granted depth of a power domain.
