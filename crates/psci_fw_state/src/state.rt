@@ -66,7 +66,6 @@ ghost use Rattle.psci_fw_spec.specs.Phases.{is_away, is_resumable, is_running};
 ghost use Rattle.psci_board.specs.Board.{IsBoard, cores};
 ghost use Rattle.psci_fw_state.specs.Seen.{is_pending_phase, message_shown, values_in};
 ghost use Rattle.psci_fw_state.specs.Trees.{IsFirstTree};
-ghost use Rattle.psci_fw_state.specs.Rows.{row_at};
 
 impl State {
     /// The state of this board's firmware before any core has entered, in memory of its own.
@@ -183,12 +182,11 @@ impl State {
         self.rows[core.number as usize].opening
     }
 
-    /// What is kept of a core of the board beside the tree of power domains.
-    pub fn row(&self, core: Core) -> CoreRow
-        requires { core.number < cores self.now.board }
-        ensures { result ≡ row_at self.now.rows core.number }
+    /// What is kept of each core beside the tree of power domains, in the order of their numbers.
+    pub fn rows(&self) -> &[CoreRow]
+        ensures { result.now ≡ self.now.rows }
     {
-        self.rows[core.number as usize]
+        &self.rows
     }
 
     /// The granted depth of a power domain.

@@ -3,6 +3,7 @@ pub mod Beside
 pub mod Changes
 pub mod DepthRows
 pub mod Domains
+pub mod Fits
 pub mod Inside
 pub mod Kept
 pub mod Recount

@@ -1,6 +1,7 @@
 //! The depths of a power domain.
 
 ghost use Rattle.std.specs.Prelude.{◌≡◌, ◌==◌, if◌then◌else◌};
+ghost use Rattle.psci_tree.specs.Fits.{is_sound};
 
 use psci_state::POWER_DOWN;
 
@@ -25,6 +26,13 @@ impl Depths {
         granted: POWER_DOWN,
         confirmed: POWER_DOWN,
     };
+
+    /// Whether no more than power-down is granted, and no more confirmed than that.
+    pub fn is_sound(self) -> bool
+        ensures { result ≡ is_sound self }
+    {
+        self.granted <= POWER_DOWN && self.confirmed <= self.granted
+    }
 
     /// This depth is granted from now on. Another one than before is not confirmed.
     pub fn grant(self, depth: u8) -> Depths

@@ -21,6 +21,7 @@ mod changes;
 mod depths;
 mod descent;
 mod domain;
+mod fitting;
 mod grants;
 mod kept;
 mod laws;
@@ -30,6 +31,7 @@ mod way;
 
 pub use depths::Depths;
 pub use domain::Domain;
+pub use fitting::fits;
 pub use laws::{
     law_asks, law_confirmed, law_cores, law_counts, law_granted, law_known, law_low,
     law_start_of_life, law_states,

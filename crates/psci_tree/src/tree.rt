@@ -57,18 +57,18 @@ impl Model for Tree {
     }) };
 }
 
-ghost use Rattle.std.specs.Prelude.{◌≡◌, ℕ, ◌<◌, ◌≤◌, map, length, replicate, IfOk, slice_index};
-ghost use Rattle.psci_board.specs.Board.{BoardValue, IsBoard, size_below, HasNodeIn, below_in};
+ghost use Rattle.std.specs.Prelude.{◌≡◌, ℕ, ◌<◌, ◌≤◌, map, length, IfOk, slice_index};
+ghost use Rattle.psci_board.specs.Board.{BoardValue, size_below, HasNodeIn, below_in};
 ghost use Rattle.psci_board.specs.declared.node.Node.{Node};
 ghost use Rattle.psci_tree.specs.declared.domain.Domain.{Domain, out-Domain};
 ghost use Rattle.psci_tree.specs.Recount.{IsDomainTree, state_at, known_at, low, known, active};
 ghost use Rattle.psci_tree.specs.Recount.{off, granted_at, confirmed_at, is_confirmed_at};
-ghost use Rattle.psci_tree.specs.Recount.{never_started};
 ghost use Rattle.psci_tree.specs.Below.{IsBelow, IsOfNode};
 ghost use Rattle.psci_tree.specs.Beside.{HoldTree, tree_in, tree_of};
-ghost use Rattle.psci_tree.specs.Changes.{all_off, start_of_life};
-ghost use Rattle.psci_tree.specs.Domains.{IsWhole, leaves};
-ghost use Rattle.psci_tree.specs.Kept.{IsKept, Keeps};
+ghost use Rattle.psci_tree.specs.Changes.{start_of_life};
+ghost use Rattle.psci_tree.specs.DepthRows.{confirmed_of, granted_of};
+ghost use Rattle.psci_tree.specs.Domains.{leaves};
+ghost use Rattle.psci_tree.specs.Kept.{Keeps};
 ghost use Rattle.psci_tree.specs.Standing.{on_path};
 
 impl Tree {
@@ -120,6 +120,21 @@ impl Tree {
             root: Box::into_inner(root),
         };
         Box::new(alloc, tree).map_err(|_| Memory)
+    }
+
+    /// What is kept of each core, in the order of their numbers.
+    pub fn cores(&self) -> &[CoreState]
+        ensures { result.now ≡ self.now.cores }
+    {
+        &self.cores
+    }
+
+    /// What each domain was granted, and what of it is confirmed, level by level from the cores up.
+    pub fn depths(&self) -> &[Vec<Depths>]
+        ensures granted { granted_of (map (λ v. v.items) result.now) ≡ self.now.granted }
+        ensures confirmed { confirmed_of (map (λ v. v.items) result.now) ≡ self.now.confirmed }
+    {
+        &self.depths
     }
 
     /// The least ask at a level of the cores below a domain: 0 above the board's height, where no

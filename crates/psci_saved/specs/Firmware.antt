@@ -1,0 +1,70 @@
+-- What is saved of a firmware, and which of it is such as one keeps.
+use Rattle.std.specs.Prelude.{◌≡◌, ◌<◌, ◌≤◌, ℕ, List, [], true, false, is_some, length, map}
+use Rattle.psci_board.specs.Board.{BoardValue, cores, height, up}
+use Rattle.psci_board.specs.declared.node.Node.{Node}
+use Rattle.psci_fw.specs.Seen.{IsFresh}
+use Rattle.psci_fw_spec.specs.Invariant.{AreValues, IsPhase, agrees, is_expected}
+use Rattle.psci_fw_spec.specs.Values.{Values}
+use Rattle.psci_fw_spec.specs.Views.{ask, view}
+use Rattle.psci_fw_spec.specs.declared.mode.SuspendMode.TheVariants.{Platform}
+use Rattle.psci_fw_state.specs.Seen.{StateValue, values_in}
+use Rattle.psci_fw_state.specs.declared.counts.StatusCounts.{StatusCounts}
+use Rattle.psci_messages.specs.View.{is_all_away, least_ask}
+use Rattle.psci_state.specs.Ask.{power_down}
+use Rattle.psci_tree.specs.Beside.{tree_of}
+use Rattle.psci_tree.specs.Recount.{TreeValue, IsDomainTree}
+use Rattle.psci_saved.specs.declared.firmware.SavedFirmware.{SavedFirmware}
+
+-- the tree that was saved
+abbrev pub saved_tree : List (List ℕ) → SavedFirmware → TreeValue
+saved_tree levels s = tree_of levels s.cores.items (map (λ v. v.items) s.depths.items)
+
+-- the state that was saved, where this is counted of the board's domains
+abbrev pub saved_state : BoardValue → SavedFirmware → List (List StatusCounts) → StateValue
+saved_state b s counts = record {
+  board = b;
+  life = s.life;
+  halting = s.halting;
+  mode = s.mode;
+  tree = saved_tree b.levels s;
+  rows = s.rows.items;
+  counts = counts;
+  slots = record { cores = s.messages.items; system = s.system };
+}
+
+-- the values that were saved: what is counted says nothing more
+abbrev pub saved_values : BoardValue → SavedFirmware → Values
+saved_values b s = values_in (saved_state b s [])
+
+-- the lists fit a board: a tree of its domains, and a row and a slot for each of its cores
+pub record HasShape (b : BoardValue) (s : SavedFirmware) : Type 0 where
+  pub tree : IsDomainTree (saved_tree b.levels s)
+  pub rows : length s.rows.items ≡ cores b
+  pub messages : length s.messages.items ≡ cores b
+
+-- a firmware of the board keeps this
+pub record IsLegal (b : BoardValue) (s : SavedFirmware) : Type 0 where
+  pub shape : HasShape b s
+  pub values : AreValues b (saved_values b s)
+  pub fresh : IsFresh b (saved_values b s)
+
+-- The parts of that, as they are tested -----------------------------------------------------------
+
+-- what is said of one core
+pub record IsLegalCore (b : BoardValue) (v : Values) (c : ℕ) : Type 0 where
+  pub known : v.known c ≤ b.starts
+  pub agree : agrees (v.status c) (v.phase c) ≡ true
+  pub phase : IsPhase b (v.phase c)
+  pub asked : v.granted 0 c ≤ ask b v c 0
+  pub own : v.halting ≡ false → v.granted 0 c ≡ ask b v c 0
+  pub opening : v.halting ≡ false → is_some (v.opening c) ≡ is_expected (v.phase c)
+
+-- what is said of one domain while the life is not halting
+pub record IsLegalDomain (b : BoardValue) (v : Values) (n : Node) : Type 0 where
+  pub away : is_all_away b (view b v) n ≡ true → v.granted n.level n.place ≡ power_down
+  pub least : v.mode ≡ Platform → v.granted n.level n.place ≡ least_ask b (view b v) n
+
+-- and so it is with all domains
+pub record AreGranted (b : BoardValue) (v : Values) : Type 0 where
+  pub each : (c level : ℕ) → c < cores b → level ≤ height b
+      → IsLegalDomain b v (record { level = level; place = up b level c })

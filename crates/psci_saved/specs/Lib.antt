@@ -1,0 +1,3 @@
+pub mod Controller
+pub mod Firmware
+pub mod Fresh

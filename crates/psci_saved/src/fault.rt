@@ -1,0 +1,20 @@
+//! Why what was saved is not opened.
+
+use psci_board::Memory;
+use thiserror::Error;
+
+/// Why what was saved is not opened.
+#[derive(Clone, Copy, Debug, PartialEq, Eq, Error)]
+pub enum OpenFault {
+    /// No firmware and no power controller of the board keeps this.
+    #[error("this is not what a firmware of this board keeps")]
+    Illegal,
+    #[error("out of memory")]
+    Memory,
+}
+
+impl From<Memory> for OpenFault {
+    fn from(_e: Memory) -> OpenFault {
+        OpenFault::Memory
+    }
+}
