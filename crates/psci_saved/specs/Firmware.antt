@@ -11,7 +11,7 @@ use Rattle.psci_fw_state.specs.Seen.{StateValue, values_in}
 use Rattle.psci_fw_state.specs.declared.counts.StatusCounts.{StatusCounts}
 use Rattle.psci_messages.specs.View.{is_all_away, least_ask}
 use Rattle.psci_state.specs.Ask.{power_down}
-use Rattle.psci_tree.specs.Beside.{tree_of}
+use Rattle.psci_tree.specs.DepthRows.{tree_of}
 use Rattle.psci_tree.specs.Recount.{TreeValue, IsDomainTree}
 use Rattle.psci_saved.specs.declared.firmware.SavedFirmware.{SavedFirmware}
 

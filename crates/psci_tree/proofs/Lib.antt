@@ -6,6 +6,8 @@ pub mod Built
 pub mod Changed
 pub mod DepthRows
 pub mod Exchanged
+pub mod FitRows
+pub mod Fitted
 pub mod GrantRows
 pub mod Granted
 pub mod Keeping

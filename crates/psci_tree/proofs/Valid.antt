@@ -9,6 +9,9 @@ use Rattle.psci_tree.proofs.Words.{never_started, Node, place_above, refl, repli
 use Rattle.psci_tree.proofs.Words.{rows_with_depth, size_below, still_confirmed, suc, sym}
 use Rattle.psci_tree.proofs.Words.{TreeValue, true, with_path_cleared, zero, ℕ}
 use Rattle.psci_tree.specs.Changes.{with_grant, MayGrant, with_confirmed}
+use Rattle.psci_tree.specs.DepthRows.{confirmed_of, granted_of, tree_of}
+use Rattle.psci_tree.specs.declared.depths.Depths.{Depths}
+use Rattle.psci_state.specs.declared.cores.CoreState.{CoreState}
 use Rattle.psci_tree.proofs.Granted.{zero_at, zero_lengths, same_up, size_of_level, row_lengths}
 use Rattle.psci_tree.proofs.Granted.{grant_at, depth_at, rows_at}
 
@@ -126,4 +129,17 @@ all_off_valid levels t h = record {
       (omega (arith, there, size_of_level levels l (omega arith))))
       (rows_le (level_sizes levels) (l + 1) (place_above levels (l + 1) c));
   sure = λ l p. omega arith;
+}
+
+-- cores that are off, and domains that are granted power-down, are such a tree
+pub made_off : (levels : List (List ℕ)) (cs : List CoreState) (ds : List (List Depths))
+    → cs ≡ replicate (size_below levels) never_started
+    → granted_of ds ≡ rows_with_depth (level_sizes levels) 3
+    → confirmed_of ds ≡ rows_with_depth (level_sizes levels) 3
+    → tree_of levels cs ds ≡ all_off levels
+made_off levels cs ds a g h = λ i. record {
+  levels = levels;
+  cores = a i;
+  granted = g i;
+  confirmed = h i;
 }

@@ -1,5 +1,4 @@
 pub mod Below
-pub mod Beside
 pub mod Changes
 pub mod DepthRows
 pub mod Domains

@@ -1,6 +1,7 @@
 //! A tree of power domains in the shape of a board.
 
-ghost use Rattle.std.specs.Prelude.{◌≡◌, map, length, sum, slice_index_or, [], IfOk};
+ghost use Rattle.std.specs.Prelude.{◌≡◌, map, length, sum, replicate, slice_index_or, [], IfOk};
+ghost use Rattle.psci_tree.specs.Recount.{never_started};
 ghost use Rattle.std.specs.List.{flat_map};
 ghost use Rattle.psci_board.specs.Board.{IsBoard, size_below};
 ghost use Rattle.psci_tree.specs.declared.domain.Domain.{Domain};
@@ -45,6 +46,15 @@ pub fn root_of(
 {
     let root = build(alloc, board, cores)?;
     Box::new(alloc, root).map_err(|_| Memory)
+}
+
+/// Each core of a board, off and never started.
+pub fn off_cores(alloc: Global, board: &Board) -> Result<Vec<CoreState>, Memory>
+    ensures value { IfOk result (λ cores.
+        cores.items ≡ replicate (size_below board.now.levels) never_started) }
+    ensures board { IfOk result (λ _. IsBoard board.now) }
+{
+    Ok(vec![in alloc; NEVER_STARTED; board.cores() as usize]?)
 }
 
 /// Cores in these states.

@@ -2,7 +2,7 @@
 
 ghost use Rattle.std.specs.Prelude.{◌≡◌, ◌<◌, ◌↔◌, true, map};
 ghost use Rattle.psci_board.specs.Board.{IsBoard, size_below};
-ghost use Rattle.psci_tree.specs.Beside.{tree_of};
+ghost use Rattle.psci_tree.specs.DepthRows.{tree_of};
 ghost use Rattle.psci_tree.specs.Fits.{falls_on, fits, have_lengths};
 ghost use Rattle.psci_tree.specs.Recount.{IsDomainTree, level_sizes};
 

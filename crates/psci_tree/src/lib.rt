@@ -15,7 +15,6 @@
 //! - A value of a domain *below* is recounted over all cores whose path the domain is on.
 #![tactic(auto)]
 
-mod beside;
 mod build;
 mod changes;
 mod depths;

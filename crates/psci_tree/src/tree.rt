@@ -1,13 +1,12 @@
 //! The tree of power domains.
 
-use crate::beside::{Rows, rows_of, rows_with};
-use crate::build::root_of;
+use crate::build::{off_cores, root_of};
 use crate::depths::Depths;
 use crate::descent::{domain_at, standings_on};
 use crate::domain::Domain;
-use crate::grants::depths_at;
+use crate::grants::{deepest_rows, depths_at};
 use crate::standing::Standings;
-use crate::way::Way;
+use crate::way::{Way, ways_of};
 use psci_board::{Board, Core, MOST_ON_PATH, Memory, Node, law_sizes, law_spans};
 use psci_state::{Activity, CoreState, NEVER_STARTED};
 use std::alloc::Global;
@@ -64,9 +63,8 @@ ghost use Rattle.psci_tree.specs.declared.domain.Domain.{Domain, out-Domain};
 ghost use Rattle.psci_tree.specs.Recount.{IsDomainTree, state_at, known_at, low, known, active};
 ghost use Rattle.psci_tree.specs.Recount.{off, granted_at, confirmed_at, is_confirmed_at};
 ghost use Rattle.psci_tree.specs.Below.{IsBelow, IsOfNode};
-ghost use Rattle.psci_tree.specs.Beside.{HoldTree, tree_in, tree_of};
 ghost use Rattle.psci_tree.specs.Changes.{start_of_life};
-ghost use Rattle.psci_tree.specs.DepthRows.{confirmed_of, granted_of};
+ghost use Rattle.psci_tree.specs.DepthRows.{confirmed_of, granted_of, tree_of};
 ghost use Rattle.psci_tree.specs.Domains.{leaves};
 ghost use Rattle.psci_tree.specs.Kept.{Keeps};
 ghost use Rattle.psci_tree.specs.Standing.{on_path};
@@ -80,15 +78,17 @@ impl Tree {
         ensures levels { IfOk result (λ tree. tree.value.levels ≡ board.now.levels) }
         ensures tree { IfOk result (λ tree. IsDomainTree tree.value) }
     {
-        let rows = rows_of(alloc, board)?;
-        let mut tree = Tree::with_rows(alloc, board, rows)?;
+        let cores = off_cores(alloc, board)?;
+        let depths = deepest_rows(alloc, board)?;
+        let mut tree = Tree::of(alloc, board, cores, depths)?;
         law_sizes();
         tree.set_pending(BOOT_CORE);
         Ok(tree)
     }
 
     /// The tree of a board whose cores are in these states, and whose domains have these depths,
-    /// level by level from the cores up.
+    /// level by level from the cores up. It has a frame of its own.
+    #[inline(never)]
     pub fn of(
         alloc: Global,
         board: &Board,
@@ -100,22 +100,12 @@ impl Tree {
         ensures { IfOk result (λ tree. tree.value ≡ tree_of board.now.levels cores.items
             (map (λ v. v.items) depths.items)) }
     {
-        let rows = rows_with(alloc, board, cores, depths)?;
-        Tree::with_rows(alloc, board, rows)
-    }
-
-    /// The tree of a board that has these rows. It has a frame of its own.
-    #[inline(never)]
-    fn with_rows(alloc: Global, board: &Board, rows: Box<Rows>) -> Result<Box<Tree>, Memory>
-        requires { HoldTree board.now rows.value }
-        ensures { IfOk result (λ tree. tree.value ≡ tree_in board.now.levels rows.value) }
-    {
-        let root = root_of(alloc, board, &rows.cores)?;
-        let rows = Box::into_inner(rows);
+        let root = root_of(alloc, board, &cores)?;
+        let ways = ways_of(alloc, board)?;
         let tree = Tree {
-            cores: rows.cores,
-            ways: rows.ways,
-            depths: rows.depths,
+            cores,
+            ways,
+            depths,
             board: board.copy(alloc)?,
             root: Box::into_inner(root),
         };

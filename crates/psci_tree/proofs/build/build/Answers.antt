@@ -4,7 +4,7 @@ use Rattle.psci_tree.proofs.Words.{child_count, cores_in, Domain, drop, drop_all
 use Rattle.psci_tree.proofs.Words.{get_or, is_width, IsTree, length, length-map}
 use Rattle.psci_tree.proofs.Words.{level, List, map, size_below, subst}
 use Rattle.psci_tree.proofs.Words.{suc, sum, sym, take, take_more, ℕ}
-use Rattle.psci_tree.proofs.Slices.{cores_down}
+use Rattle.psci_tree.proofs.Slices.{cores_down, size_few}
 use Rattle.psci_tree.proofs.Built.{shaped_more, ends_more, root_whole, root_cores}
 use Rattle.psci_tree.proofs.Keeping.{kept_last}
 use Rattle.psci_tree.proofs.build.build.Goals as goal
@@ -63,7 +63,7 @@ parents_of-requires-clause-row c =
     omega (arith, c.loop-below-test.true, c.height-below-end.ensures.height) in record {
       level = fits;
       kept = c.loop-below.invariant.kept;
-      few = omega (arith, all, c.height-below-end.ensures.board.few);
+      few = omega (arith, all, size_few levels tree);
       children = sym (c.loop-below.invariant.size ∙ (level levels at tree fits).size);
     }
 
