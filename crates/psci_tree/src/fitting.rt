@@ -1,15 +1,15 @@
 //! Which states of cores and depths of domains are those of a tree.
 
-ghost use Rattle.std.specs.Prelude.{◌≡◌, ◌<◌, ◌↔◌, true, map};
+ghost use Rattle.std.specs.Prelude.{◌≡◌, ◌<◌, ◌↔◌, ℕ, true, map, slice_index_or};
 ghost use Rattle.psci_board.specs.Board.{IsBoard, size_below};
 ghost use Rattle.psci_tree.specs.DepthRows.{tree_of};
 ghost use Rattle.psci_tree.specs.Fits.{falls_on, fits, have_lengths};
-ghost use Rattle.psci_tree.specs.Recount.{IsDomainTree, level_sizes};
+ghost use Rattle.psci_tree.specs.Recount.{IsActivity, IsDomainTree, level_sizes, never_started};
 
 use crate::depths::Depths;
 use crate::grants::depths_at;
 use psci_board::{Board, Core};
-use psci_state::CoreState;
+use psci_state::{Activity, CoreState};
 
 /// Whether a tree of a board may have these states of its cores, and these depths of its domains,
 /// level by level from the cores up.
@@ -18,10 +18,22 @@ pub fn fits(board: &Board, cores: &[CoreState], depths: &[Vec<Depths>]) -> bool
     ensures tree { result ≡ true ↔ IsDomainTree
         (tree_of board.now.levels cores.now (map (λ v. v.items) depths.now)) }
 {
+    read_activities(cores);
     cores.len() == board.cores() as usize
         && have_lengths(board, depths)
         && depths.iter().all(|row| row.iter().all(|depths| depths.is_sound()))
         && (0..board.cores()).all(|number| falls_on(board, depths, Core { number }))
+}
+
+/// Reads what each core does, which is something that a core can do: each ask is one.
+fn read_activities(cores: &[CoreState])
+    ensures { (k : ℕ) → IsActivity (slice_index_or cores.now k never_started).activity }
+{
+    for core in cores {
+        if let Activity::Suspended(ask) = &core.activity {
+            let _depth = ask.depth(0);
+        }
+    }
 }
 
 /// Whether there is a row for each level of a board, with depths for each domain.
