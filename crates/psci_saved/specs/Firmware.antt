@@ -1,5 +1,5 @@
 -- What is saved of a firmware, and which of it is such as one keeps.
-use Rattle.std.specs.Prelude.{◌≡◌, ◌<◌, ◌≤◌, ℕ, List, [], true, false, is_some, length, map}
+use Rattle.std.specs.Prelude.{◌≡◌, ◌<◌, ◌≤◌, ℕ, List, [], Bool, true, false, Option, is_some, length}
 use Rattle.psci_board.specs.Board.{BoardValue, cores, height, up}
 use Rattle.psci_board.specs.declared.node.Node.{Node}
 use Rattle.psci_fw.specs.Seen.{IsFresh}
@@ -8,42 +8,62 @@ use Rattle.psci_fw_spec.specs.Values.{Values}
 use Rattle.psci_fw_spec.specs.Views.{ask, view}
 use Rattle.psci_fw_spec.specs.declared.mode.SuspendMode.TheVariants.{Platform}
 use Rattle.psci_fw_state.specs.Seen.{StateValue, values_in}
+use Rattle.psci_fw_spec.specs.declared.mode.SuspendMode.{SuspendMode}
+use Rattle.psci_fw_state.specs.declared.row.CoreRow.{CoreRow}
+use Rattle.psci_messages.specs.Message.{MessageValue}
+use Rattle.psci_state.specs.declared.cores.CoreState.{CoreState}
 use Rattle.psci_fw_state.specs.declared.counts.StatusCounts.{StatusCounts}
 use Rattle.psci_messages.specs.View.{is_all_away, least_ask}
 use Rattle.psci_state.specs.Ask.{power_down}
 use Rattle.psci_tree.specs.DepthRows.{tree_of}
 use Rattle.psci_tree.specs.Recount.{TreeValue, IsDomainTree}
-use Rattle.psci_saved.specs.declared.firmware.SavedFirmware.{SavedFirmware}
+use Rattle.psci_tree.specs.declared.depths.Depths.{Depths}
+
+-- What is saved of a firmware, as contracts see it.
+pub record SavedValue : Type 0 where
+  -- 0 before any core has entered
+  pub life : ℕ
+  pub halting : Bool
+  pub mode : SuspendMode
+  -- what each core does, and its known start, in the order of their numbers
+  pub cores : List CoreState
+  -- the status of each core, and where it goes on
+  pub rows : List CoreRow
+  -- what each domain was granted, and what of it is confirmed, by level and place
+  pub depths : List (List Depths)
+  -- the outstanding message of each core, and that of the system
+  pub messages : List (Option MessageValue)
+  pub system : Option MessageValue
 
 -- the tree that was saved
-abbrev pub saved_tree : List (List ℕ) → SavedFirmware → TreeValue
-saved_tree levels s = tree_of levels s.cores.items (map (λ v. v.items) s.depths.items)
+abbrev pub saved_tree : List (List ℕ) → SavedValue → TreeValue
+saved_tree levels s = tree_of levels s.cores s.depths
 
 -- the state that was saved, where this is counted of the board's domains
-abbrev pub saved_state : BoardValue → SavedFirmware → List (List StatusCounts) → StateValue
+abbrev pub saved_state : BoardValue → SavedValue → List (List StatusCounts) → StateValue
 saved_state b s counts = record {
   board = b;
   life = s.life;
   halting = s.halting;
   mode = s.mode;
   tree = saved_tree b.levels s;
-  rows = s.rows.items;
+  rows = s.rows;
   counts = counts;
-  slots = record { cores = s.messages.items; system = s.system };
+  slots = record { cores = s.messages; system = s.system };
 }
 
 -- the values that were saved: what is counted says nothing more
-abbrev pub saved_values : BoardValue → SavedFirmware → Values
+abbrev pub saved_values : BoardValue → SavedValue → Values
 saved_values b s = values_in (saved_state b s [])
 
 -- the lists fit a board: a tree of its domains, and a row and a slot for each of its cores
-pub record HasShape (b : BoardValue) (s : SavedFirmware) : Type 0 where
+pub record HasShape (b : BoardValue) (s : SavedValue) : Type 0 where
   pub tree : IsDomainTree (saved_tree b.levels s)
-  pub rows : length s.rows.items ≡ cores b
-  pub messages : length s.messages.items ≡ cores b
+  pub rows : length s.rows ≡ cores b
+  pub messages : length s.messages ≡ cores b
 
 -- a firmware of the board keeps this
-pub record IsLegal (b : BoardValue) (s : SavedFirmware) : Type 0 where
+pub record IsLegal (b : BoardValue) (s : SavedValue) : Type 0 where
   pub shape : HasShape b s
   pub values : AreValues b (saved_values b s)
   pub fresh : IsFresh b (saved_values b s)

@@ -1,9 +1,5 @@
 //! What is saved of a firmware.
 
-ghost use Rattle.std.specs.Prelude.{◌≡◌, ⊥, IfOk, Err};
-ghost use Rattle.psci_saved.specs.declared.fault.OpenFault.TheVariants.{Illegal};
-ghost use Rattle.psci_saved.specs.Firmware.{HasShape, IsLegal, saved_state};
-
 use crate::fault::OpenFault;
 use crate::legal::is_legal;
 use crate::messages::{copies, messages_of};
@@ -15,6 +11,7 @@ use psci_messages::{Message, Slots};
 use psci_state::CoreState;
 use psci_tree::{Depths, Tree, fits};
 use std::alloc::Global;
+use std::marker::Model;
 
 /// What a firmware keeps, beside its board and what follows from the rest.
 #[derive(Drop)]
@@ -37,6 +34,28 @@ pub struct SavedFirmware {
     /// The outstanding message of the system.
     pub system: Option<Message>,
 }
+
+impl Model for SavedFirmware {
+    ghost use Rattle.std.specs.Prelude.{map};
+    ghost use Rattle.psci_saved.specs.Firmware.{SavedValue};
+
+    ghost Value = { SavedValue };
+
+    ghost view = { λ s. record {
+      life = s.life;
+      halting = s.halting;
+      mode = s.mode;
+      cores = s.cores.items;
+      rows = s.rows.items;
+      depths = map (λ v. v.items) s.depths.items;
+      messages = s.messages.items;
+      system = s.system;
+    } };
+}
+
+ghost use Rattle.std.specs.Prelude.{◌≡◌, ⊥, IfOk, Err};
+ghost use Rattle.psci_saved.specs.declared.fault.OpenFault.TheVariants.{Illegal};
+ghost use Rattle.psci_saved.specs.Firmware.{HasShape, IsLegal, saved_state};
 
 impl SavedFirmware {
     /// What a firmware keeps.
