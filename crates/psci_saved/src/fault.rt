@@ -14,7 +14,12 @@ pub enum OpenFault {
 }
 
 impl From<Memory> for OpenFault {
-    fn from(_e: Memory) -> OpenFault {
+    ghost use Rattle.std.specs.Prelude.{◌≡◌};
+    ghost use Rattle.psci_saved.specs.declared.fault.OpenFault.TheVariants.{Memory};
+
+    ghost from_gives = { λ error fault. fault ≡ Memory };
+
+    fn from(_error: Memory) -> OpenFault {
         OpenFault::Memory
     }
 }
