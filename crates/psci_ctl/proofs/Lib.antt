@@ -2,7 +2,8 @@ pub mod Applying
 pub mod Children
 pub mod Kept
 pub mod Looked
-pub mod Made
 pub mod Started
+pub mod Summed
+pub mod SummedRows
 pub mod Walked
 pub mod KeptRows

@@ -1,17 +1,11 @@
 //! A power controller that is made of what another one keeps.
 
-ghost use Rattle.std.specs.Prelude.{◌≡◌, ◌≤◌, length, map, IfOk};
-ghost use Rattle.psci_board.specs.Board.{HasNode, IsBoard, cores, height, nodes};
-ghost use Rattle.psci_ctl_spec.specs.Values.{starts_below};
-ghost use Rattle.psci_ctl.specs.Made.{ArePartsOf, HasDepths, summed_level, summed_levels, values_of};
-ghost use Rattle.psci_ctl.specs.Rows.{core_row};
-ghost use Rattle.psci_ctl.specs.Seen.{seen};
-
 use crate::controller::Controller;
 use crate::level::{DomainRow, Level};
 use crate::row::CoreRow;
 use psci_board::{Board, Memory, Node, law_spans};
 use std::alloc::Global;
+use std::marker::Model;
 
 /// What a power controller keeps, beside its board and what follows from the rest.
 #[derive(Drop)]
@@ -23,6 +17,26 @@ pub struct ControllerParts {
     /// From level 0 up, how deep each domain is, by its place.
     pub depths: Vec<Vec<u8>>,
 }
+
+impl Model for ControllerParts {
+    ghost use Rattle.std.specs.Prelude.{map};
+    ghost use Rattle.psci_ctl.specs.Made.{PartsValue};
+
+    ghost Value = { PartsValue };
+
+    ghost view = { λ p. record {
+      life = p.life;
+      cores = p.cores.items;
+      depths = map (λ v. v.items) p.depths.items;
+    } };
+}
+
+ghost use Rattle.std.specs.Prelude.{◌≡◌, ◌≤◌, length, map, IfOk};
+ghost use Rattle.psci_board.specs.Board.{HasNode, IsBoard, cores, height, nodes};
+ghost use Rattle.psci_ctl_spec.specs.Values.{starts_below};
+ghost use Rattle.psci_ctl.specs.Made.{ArePartsOf, HasDepths, summed_level, summed_levels, values_of};
+ghost use Rattle.psci_ctl.specs.Rows.{core_row};
+ghost use Rattle.psci_ctl.specs.Seen.{seen};
 
 impl Controller {
     /// The power controller of this board that keeps this.

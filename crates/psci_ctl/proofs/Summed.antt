@@ -1,12 +1,16 @@
 -- What is kept of domains that are so deep, looked up.
 use Rattle.std.proofs.Common.{◌≡◌, ℕ, zero, suc, ◌+◌, ◌<◌, ◌≤◌, ◌==◌, ◌∙◌, ◌∷◌, Bool, true, false}
 use Rattle.std.proofs.Common.{List, [], length, get_or, map, Option, Some, refl, ap, sym, subst}
-use Rattle.std.proofs.Common.{arith, inl, inr, filter}
+use Rattle.std.proofs.Common.{arith, inl, inr, filter, sum}
 use Rattle.std.specs.List.{range_with_len, sum_by}
 use Rattle.std.proofs.lemmas.Bool.{cases_lt, ne_eqb}
 use Rattle.std.proofs.lemmas.List.{get_or_default, get_or_past}
 use Rattle.std.proofs.lemmas.List.FromFn.{get_or-map-range_with_len, length-map-range_with_len}
-use Rattle.psci_board.specs.Board.{BoardValue, IsBoard, cores, height, nodes, place_above, below}
+use Rattle.std.proofs.lemmas.List.FromFn.{sum_by-map-range_with_len_more}
+use Rattle.std.proofs.lemmas.List.Sums.{sum-map}
+use Rattle.psci_board.specs.Board.{BoardValue, HasNode, IsBoard, cores, height, nodes, place_above}
+use Rattle.psci_board.specs.Board.{span}
+use Rattle.psci_board.specs.Laws.{SpanLaws}
 use Rattle.psci_board.specs.declared.node.Node.{Node}
 use Rattle.psci_board.proofs.Paths.{inside}
 use Rattle.psci_ctl_spec.specs.Follows.{AreValues}
@@ -152,3 +156,19 @@ made_is b life cs ds is count shape are = record {
   values = subst (AreValues b) (sym (values_are b life cs ds)) are;
   sums = λ l e. sums_are b cs ds is shape;
 }
+
+-- Sums over a span -----------------------------------------------------------------------------
+
+-- the numbers of one core more
+pub sum_next : (f : ℕ → ℕ) (a n j : ℕ) → a + n ≡ j
+    → sum (map f (range_with_len a (n + 1))) ≡ sum (map f (range_with_len a n)) + f j
+sum_next f a n j e = sum_by-map-range_with_len_more (λ x. x) f a n j e
+
+-- all cores of the span of a node are those below it
+pub sum_all : (b : BoardValue) (f : ℕ → ℕ) (n : Node) → SpanLaws b.levels → HasNode b n
+    → sum (map f (range_with_len (span b.levels n).first (span b.levels n).count))
+    ≡ starts_below b f n
+unfolding starts_below
+sum_all b f n laws there =
+    sum-map f (range_with_len (span b.levels n).first (span b.levels n).count)
+    ∙ ap (sum_by f) (sym (laws.cores n there))
