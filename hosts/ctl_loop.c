@@ -1,7 +1,9 @@
-/* ctl_loop SCRIPT ANSWERS: plays the power controller's side of a script. Messages, wake-ups and
+/* ctl_loop SCRIPT ANSWERS [saved]: plays the power controller's side of a script. Messages, wake-ups and
  * resets go to the library; what the firmware says, and so which messages there are, is taken from
  * the answers that the program gave. Writes the answer lines: the program's, where the library
- * answers as the program does. It uses the power controller's half of the archive alone. */
+ * answers as the program does. It uses the power controller's half of the archive alone. By `saved` the
+ * power controller is saved before each event, made anew, and loaded: that cannot be told. */
+#define _XOPEN_SOURCE 700
 #include "pool.h"
 #include "psci_ctl.h"
 
@@ -10,7 +12,7 @@
 #include <stdlib.h>
 #include <string.h>
 
-enum { MOST_CORES = 256, MOST_FRAMES = 100000, MOST_LINE = 512 };
+enum { MOST_CORES = 256, MOST_FRAMES = 100000, MOST_LINE = 512, MOST_WORDS = 3 + 5 * MOST_CORES };
 
 static struct psci_ctl_place place;
 static unsigned many_cores;
@@ -23,6 +25,26 @@ static void fail(const char *why) {
     exit(1);
 }
 
+/* The board's text, if the power controller is saved before each event. */
+static char *board;
+
+static void open_it(const char *text) {
+    if (psci_ctl_open(&place, (const uint8_t *)text, strlen(text)) != PSCI_OPENED)
+        fail("the board did not open");
+}
+
+/* The power controller is saved, and loaded into one that is made anew. */
+static void move(void) {
+    static uint64_t words[MOST_WORDS];
+    size_t many = psci_ctl_save_size(&place);
+    if (many > MOST_WORDS || psci_ctl_save(&place, words, many) != 0)
+        fail("it is not saved");
+    psci_ctl_close(&place);
+    open_it(board);
+    if (psci_ctl_load(&place, words, many) != 0)
+        fail("it is not loaded");
+}
+
 /* Each number of the tree is a cluster of so many cores. */
 static void open_board(const char *text) {
     for (const char *tree = text; *tree && strncmp(tree, " exec", 5) != 0; tree++)
@@ -32,8 +54,7 @@ static void open_board(const char *text) {
         }
     size_t size = pool_size(many_cores);
     pool_give(malloc(size), size);
-    if (psci_ctl_open(&place, (const uint8_t *)text, strlen(text)) != PSCI_OPENED)
-        fail("the board did not open");
+    open_it(text);
     for (unsigned core = 1; core < many_cores; core++)
         stopped[core] = true;
 }
@@ -161,19 +182,23 @@ static void event(const char *line, const char *said) {
 
 int main(int count, char **words) {
     static char line[MOST_LINE], answer[MOST_LINE];
-    FILE *script = count == 3 ? fopen(words[1], "r") : NULL;
-    FILE *answers = count == 3 ? fopen(words[2], "r") : NULL;
+    bool saves = count == 4 && strcmp(words[3], "saved") == 0;
+    FILE *script = count == 3 || saves ? fopen(words[1], "r") : NULL;
+    FILE *answers = script ? fopen(words[2], "r") : NULL;
     if (!script || !answers)
         fail("give a script and its answers");
     for (uint64_t at = 0, events = 0; fgets(line, sizeof line, script); at++) {
         line[strcspn(line, "\n")] = 0;
         if (at == 0) {
             open_board(line + strlen("board "));
+            board = saves ? strdup(line + strlen("board ")) : NULL;
         } else if (*line && *line != '#') {
             if (!fgets(answer, sizeof answer, answers))
                 fail("there are fewer answers than events");
             answer[strcspn(answer, "\n")] = 0;
             printf("%" PRIu64 " ", ++events);
+            if (board)
+                move();
             event(line, strchr(answer, ' ') + 1);
         }
     }

@@ -30,6 +30,16 @@ enum psci_ctl_act {
     PSCI_CTL_NOT_A_MESSAGE = 42,          /* the frame is an acknowledgement's */
 };
 
+/* Why words are no saved power controller of the board: the first of these. */
+enum psci_ctl_saved {
+    PSCI_SAVED_LENGTH = 50, /* there are more or fewer than are saved of the board */
+    PSCI_SAVED_FORMAT = 51, /* the first is not this format's */
+    PSCI_SAVED_SUM = 52,    /* the second is not the sum of those after it */
+    PSCI_SAVED_LIFE = 53,   /* the life is beyond the board's last one */
+    PSCI_SAVED_STARTS = 54, /* more starts than the board allows, or any without a life; or the boot core has none */
+    PSCI_SAVED_DEPTH = 55,  /* a domain is deeper than power-down */
+};
+
 /* How deep a domain is. */
 enum psci_depth { PSCI_CTL_ON = 0, PSCI_CTL_STANDBY = 1, PSCI_CTL_RETENTION = 2, PSCI_CTL_POWER_DOWN = 3 };
 
@@ -96,6 +106,26 @@ void psci_ctl_started(struct psci_ctl_place *, uint16_t core, struct psci_ctl_st
 /* PSCI_CTL_ON to PSCI_CTL_POWER_DOWN; PSCI_CTL_NO_PLACE; PSCI_NO_CORE where the board has no such
  * domain; PSCI_NO_LIFE once the system is off. */
 uint32_t psci_ctl_depth(struct psci_ctl_place *, uint32_t level, uint16_t index);
+
+/* A power controller is saved as words of 64 bits, which do not name the board:
+ *
+ *     the format and its version, 0x16c746370
+ *     the sum of those after it: from 0, times 0x100000001b3 plus each word, modulo 2^64
+ *     the life, 0 once the system is off
+ *     of each core four times its starts in this life, plus the cause of the last
+ *     of each domain, level by level from the cores up, its depth
+ *
+ * How many words the power controller is saved as, as many for each of its board; 0 in an empty
+ * place. */
+size_t psci_ctl_save_size(struct psci_ctl_place *);
+
+/* Writes the power controller into so many words: 0. PSCI_CTL_NO_PLACE, or PSCI_SAVED_LENGTH where
+ * they are not as many, and none is written. */
+uint32_t psci_ctl_save(struct psci_ctl_place *, uint64_t *words, size_t count);
+
+/* The power controller in the place is from now on as the one that these words were saved of, on the
+ * same board: 0. PSCI_CTL_NO_PLACE, or PSCI_SAVED_LENGTH to PSCI_SAVED_DEPTH, and nothing changes. */
+uint32_t psci_ctl_load(struct psci_ctl_place *, const uint64_t *words, size_t count);
 
 #ifdef __cplusplus
 }

@@ -26,9 +26,10 @@ release() {
     {
         printf '%s\n' LICENSE README VERSION bin/psci lib/x86_64/libpsci_ffi.a lib/aarch64/libpsci_ffi{,-strict-align}.a \
             lib/x86_64/pkgconfig/psci.pc lib/aarch64/pkgconfig/psci{,-strict-align}.pc \
-            share/man/man1/psci.1 share/bash-completion/completions/psci include/psci{,_ctl,_heap}.h \
+            share/man/man1/psci.1 share/bash-completion/completions/psci \
             share/zsh/site-functions/_psci share/fish/vendor_completions.d/psci.fish \
             share/doc/gumdarts/{FORMATS,PORTING,REFERENCE,BOARDS,CHANGELOG}.md examples/host/{README,loop.c,player.c,player.h,pool.c,pool.h}
+        headers | sed 's|^|include/|'
         git ls-files examples | grep -E '^examples/[^/]*\.(psci|out)$|^examples/boards/.*\.(machine|calls|answers)$'
     } | LC_ALL=C sort > "$work/lines"
     answers "the files of the archive"

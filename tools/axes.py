@@ -3,6 +3,7 @@
     uses(axis, clause, happens, is_break, of_platform)    why it does not; None if it does
     shows(axis, statement)                                the same where only words are looked at
     acts(axis, statement)                                 the same of a port's acts
+    serves(axis, statement)                               the same of a message and its board
 """
 import re
 
@@ -19,7 +20,9 @@ PAIRS = (*(f"level {level} in {value}" for value in ("life 2", "OS-initiated mod
          "boot core in life 2", "caller in life 2", "bystander in life 2",
          "boot core after an entry", "another core after an entry")
 PORT = ("life 1", "life 2", "boot core", "another core", "boot core in life 2")
-NAMED_AXES = {"pairs": PAIRS, "two cores": TWO_CORES, "port": PORT}
+SERVED = ("low board", "height 3", "life 1", "life 2", "boot core", "another core", "power-down",
+          "standby", "going on", "halting")
+NAMED_AXES = {"pairs": PAIRS, "two cores": TWO_CORES, "port": PORT, "served": SERVED}
 # the numbers of cores on a board
 CORES = {"boot core": 0, "second core": 1, "first of another cluster": 2, "last of five": 4}
 # the clauses that speak of cores that are powered down: retention is no sleep to them
@@ -58,6 +61,23 @@ def acts(axis, text):
         return len(re.findall(r"\b0x84000009 ", text)) == int(value) - 1
     last = ACT.findall(text)[-1:]
     return last != [] and (last == ["0"]) == (axis == "boot core")
+
+
+# a message, with its life: a Down of a core, or one that ends the life, of the boot core
+MESSAGE = re.compile(r"\b(?:down_of (\d+)|of_system \w+) (\d+)")
+
+
+def serves(axis, text):
+    """Whether the board and the last message of an example are of this value."""
+    core, life = (MESSAGE.findall(text) or [("none", "")])[-1]
+    word, _, value = axis.partition(" ")
+    if word == "life":
+        return life == value
+    if axis in ("boot core", "another core"):
+        return (core in ("", "0")) == (axis == "boot core")
+    sign = {"height 3": r"\btall\b", "low board": r"\btall\b", "standby": "standby",
+            "power-down": "standby", "halting": "of_system", "going on": "of_system"}[axis]
+    return bool(re.search(sign, text)) == (axis in ("height 3", "standby", "halting"))
 
 
 def core_of(axis, happens, of_platform):

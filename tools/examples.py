@@ -57,9 +57,10 @@ class Examples:
     """The theorems of a crate that are proved by computing, by file and name, with all that their
     statements say: names of events in a row are written out."""
 
-    def __init__(self, crate):
+    def __init__(self, crate, by_none=None):
         self.folders = [f"{TOP}/crates/{it}/proofs" for it in (crate, "psci_examples")]
-        self.files, self.kept, self.by_none = {}, {}, crate in BY_NONE
+        self.files, self.kept = {}, {}
+        self.by_none = crate in BY_NONE if by_none is None else by_none
         # what else is written out: an example that has to use its cell goes by the names of boards
         self.named = "Event" if crate in USED else "BoardValue"
         # runs that several files of examples name

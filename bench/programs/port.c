@@ -115,7 +115,7 @@ static void polled(void) {
 
 int main(int count, char **words) {
     unsigned long pairs = count > 1 ? strtoul(words[1], NULL, 10) : 1000000;
-    size_t size = pool_size(CORES);
+    size_t size = 2 * pool_size(CORES);
     pool_give(malloc(size), size);
     for (unsigned threads = 1; threads <= CORES; threads *= 2)
         timed(pairs, threads);

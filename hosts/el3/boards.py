@@ -222,12 +222,12 @@ def every():
 
 
 def rows():
-    print("| Board | UART | Interrupts | Power controller | The guest is woken by | Lines |\n|---|---|---|---|---|---|")
+    print("| Board | UART | Interrupts | Power controller | Woken by | Lines |\n|---|---|---|---|---|---|")
     for name in every():
         board = Board(name)
         gic = ", ".join(f"GICv{it}" for it in board.gics())
-        print(f"| `{name}` | {board.get('uart').split()[0]} | {gic or 'by its hooks'} | "
-              f"{'on the last core' if board.has_core() else 'in the monitors, under the lock'} | {board.get('wakes')} | {lines_of(name)} |")
+        print(f"| `{name}` | {board.get('uart').split()[0]} | {gic or 'hooks'} | "
+              f"{'last core' if board.has_core() else 'monitors'} | {board.get('wakes')} | {lines_of(name)} |")
 
 
 def check():

@@ -7,13 +7,20 @@
 #include "power.h"
 #include "record.h"
 
-/* The start that each core has entered by. */
-static uint64_t used[CORES];
+void begin_stop(unsigned core) { STORE(shared.doors[core].leaves, sides[core].used); }
 
-void begin_stop(unsigned core) { STORE(shared.doors[core].leaves, used[core]); }
+/* A look at its door, whose start is read once it is open, and at what is pending. */
+static uint32_t look(struct psci_port_core *side) {
+    const struct door *door = &shared.doors[side->core];
+    struct psci_port_door seen = {.opened = LOAD(door->opened)};
+    if (seen.opened != side->used)
+        seen.start = door->start;
+    return psci_port_look(side, &seen, gic_wakes());
+}
 
 /* A WFI, which goes on where an interrupt is there; in that of stand.S the core's power may go. */
-static void rest(const struct last_word *last, enum caches caches) {
+static void rest(struct psci_port_core *side, const struct last_word *last, enum caches caches) {
+    psci_port_sleeps(side); /* where it is armed, as in monitors.c */
     if (caches == NO_CACHES) {
         board_waits();
         return;
@@ -23,62 +30,66 @@ static void rest(const struct last_word *last, enum caches caches) {
     gic_rises();
 }
 
-/* The last thing that a core does in a start. On a machine its power goes here, and it comes back
- * through its reset vector; an emulated core keeps its power, and waits in this loop instead. Once it has said that it
- * stands it takes no lock, with which its power could go, but where the controller is in the monitors. */
-void wait_for_start(unsigned core, bool wakes, enum caches caches) {
-    struct door *door = &shared.doors[core];
-    if (!wakes)
+/* Until it takes up a start: the last thing that a core does in one, or the first behind a reset. On a machine its power
+ * goes here, and it comes back through its reset vector; an emulated core keeps its power, and waits in this loop instead.
+ * Once it has said that it stands it takes no lock, with which its power could go, but where the controller is in the
+ * monitors. */
+void wait_for_start(struct psci_port_core *side, enum caches caches) {
+    struct last_word last = {0};
+    if (side->stop != PSCI_PORT_SUSPENDED)
         gic_bell_alone();
-    struct last_word last = tell_stop(core, used[core], caches);
+    if (side->post == PSCI_PORT_LEAVING)
+        last = tell_stop(side, caches);
     for (;;) {
         gic_answer();
-        if (LOAD(door->opened) != used[core])
+        uint32_t found = look(side);
+        if (found == PSCI_PORT_TAKES_UP)
             return;
-        if (wakes && gic_wakes() && door->woken != used[core])
-            tell_wake_up(core, used[core]);
+        if (found == PSCI_PORT_TELLS)
+            tell_wake_up(side);
         relax();
-        rest(&last, caches);
+        rest(side, &last, caches);
         last.bell.value = 0;
     }
 }
 
 /* Nobody has asked for the first entry of a life: there the boot core gets what Linux wants in x0. */
-static _Noreturn void begin(const struct psci_ctl_start *start, const struct psci_answer *answer) {
+static _Noreturn void begin(const struct psci_port_orders *orders) {
+    uint64_t x0 = orders->cause == PSCI_CAUSE_BOOT ? DEVICE_TREE : orders->x0;
     COUNT(entries);
     begin_normal_world();
-    leave_for(answer->address, start->cause == PSCI_CAUSE_BOOT ? DEVICE_TREE : answer->context);
+    record_begins(orders->address, x0);
+    leave_for(orders->address, x0);
 }
 
-/* The entry by the start that stands at the core's door. */
-static void enter_once(unsigned core, struct psci_ctl_start *start, struct psci_answer *answer) {
-    used[core] = LOAD(shared.doors[core].opened);
-    *start = shared.doors[core].start;
+/* The entry by the start that the core took up. */
+static void enter_once(struct psci_port_core *side, struct psci_port_orders *orders) {
+    struct psci_ctl_start start = side->start;
     lock();
     take_acks();
-    psci_enter(&firmware, core, start->life, start->number, start->cause, answer);
-    if (answer->what == PSCI_STOP)
-        begin_stop(core);
-    record_enter(start, answer);
-    post(&answer->message);
+    psci_port_enter(&firmware, side, orders);
+    if (orders->next == PSCI_PORT_STANDS)
+        begin_stop(side->core);
+    record_enter(&start, orders);
+    post(&orders->message);
     unlock();
 }
 
 /* A core that parks, or whose entry was refused, waits for its next start, and enters by that. */
-void enter(unsigned core) {
-    struct psci_ctl_start start;
-    struct psci_answer answer;
+uint64_t enter(struct psci_port_core *side) {
+    struct psci_port_orders orders;
     for (;;) {
-        enter_once(core, &start, &answer);
-        switch (answer.what) {
-        case PSCI_ENTER: begin(&start, &answer);
-        case PSCI_RESUME: COUNT(resumes); return;
-        case PSCI_STOP: COUNT(parks); break;
+        enter_once(side, &orders);
+        switch (orders.next) {
+        case PSCI_PORT_ENTERS: begin(&orders);
+        case PSCI_PORT_RESUMES: COUNT(resumes); return orders.x0;
+        case PSCI_PORT_STANDS: COUNT(parks); break;
         default:
             COUNT(refused);
-            say("# el3: the entry of core %u was refused: %u\n", core, answer.what);
+            say("# el3: the entry of core %u was refused: %u\n", side->core, orders.next);
+            psci_port_comes_back(side);
         }
-        wait_for_start(core, false, OWN_CACHES);
+        wait_for_start(side, OWN_CACHES);
     }
 }
 
@@ -121,8 +132,11 @@ void on_reset(void) {
     start_control();
     unsigned core = find_number();
     gic_start_core(core);
-    if (LOAD(shared.doors[core].opened) == used[core])
-        wait_for_start(core, false, OWN_CACHES);
-    enter(core);
+    struct psci_port_core *side = &sides[core];
+    if (side->post != PSCI_PORT_ENTERING) { /* else its power never went, and it took up a start before */
+        psci_port_comes_back(side);
+        wait_for_start(side, OWN_CACHES);
+    }
+    enter(side);
     lost_registers(core);
 }

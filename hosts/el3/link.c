@@ -22,7 +22,7 @@ bool put_frame(struct ring *ring, const uint8_t *frame) {
         COUNT(dropped);
         return false;
     }
-    memcpy(ring->frames[end % MOST_FRAMES], frame, PSCI_FRAME_LEN);
+    memcpy(ring->slots[end % MOST_FRAMES].frame.bytes, frame, PSCI_FRAME_LEN);
     STORE(ring->end, end + 1);
     return true;
 }
@@ -31,7 +31,7 @@ bool get_frame(struct ring *ring, uint8_t *frame) {
     uint32_t first = ring->first;
     if (first == LOAD(ring->end))
         return false;
-    memcpy(frame, ring->frames[first % MOST_FRAMES], PSCI_FRAME_LEN);
+    memcpy(frame, ring->slots[first % MOST_FRAMES].frame.bytes, PSCI_FRAME_LEN);
     STORE(ring->first, first + 1);
     return true;
 }
@@ -42,20 +42,21 @@ void send(const struct psci_frame *message) {
     gic_ring(SCP);
 }
 
-struct last_word tell_stop(unsigned core, uint64_t used, enum caches caches) {
-    struct door *door = &shared.doors[core];
-    record_stands(used);
+struct last_word tell_stop(struct psci_port_core *side, enum caches caches) {
+    struct door *door = &shared.doors[side->core];
+    psci_port_stands(side);
+    record_stands(side->used);
     if (caches != NO_CACHES)
-        return (struct last_word){&door->stopped, used, gic_bell(SCP)};
-    STORE(door->stopped, used);
+        return (struct last_word){&door->stopped, side->used, gic_bell(SCP)};
+    STORE(door->stopped, side->used);
     gic_ring(SCP);
     return (struct last_word){0};
 }
 
 /* Its power may go at any time, so the word is in memory before it rings. */
-void tell_wake_up(unsigned core, uint64_t used) {
-    struct door *door = &shared.doors[core];
-    STORE(door->woken, used);
+void tell_wake_up(struct psci_port_core *side) {
+    struct door *door = &shared.doors[side->core];
+    STORE(door->woken, side->told);
     clean(&door->woken, &door->woken + 1);
     gic_ring(SCP);
 }
@@ -63,31 +64,28 @@ void tell_wake_up(unsigned core, uint64_t used) {
 uint64_t clean_start(unsigned core) { return behind_caches(&shared.doors[core].stopped); }
 
 void take_ack(void) {
-    uint8_t frame[PSCI_FRAME_LEN];
-    if (!get_frame(&shared.acks, frame))
+    struct slot ack;
+    if (!get_frame(&shared.acks, ack.frame.bytes))
         return;
-    uint32_t what = psci_take(&firmware, frame, PSCI_FRAME_LEN);
+    uint32_t what = psci_take(&firmware, ack.frame.bytes, PSCI_FRAME_LEN);
     COUNT(acks);
-    record_take(frame, what);
+    record_take(ack.frame.bytes, what);
     if (what > PSCI_OLD) {
         COUNT(refused);
         say("# el3: an acknowledgement was refused: %u\n", what);
     }
 }
 
-/* The lock is taken, so no call comes between. */
 bool send_again(void) {
-    static struct psci_frame before[CORES + 1];
+    static struct psci_port_sent last[CORES + 1];
     bool some = false;
     for (unsigned number = 0; number <= CORES; number++) {
-        struct psci_frame frame;
-        psci_outstanding(&firmware, number, &frame);
-        if (frame.some && memcmp(&frame, &before[number], sizeof frame) == 0) {
+        struct psci_frame message;
+        some |= psci_port_again(&firmware, number, &last[number], &message) != PSCI_PORT_NONE;
+        if (message.some) {
             COUNT(again);
-            put_frame(&shared.messages, frame.bytes);
+            put_frame(&shared.messages, message.bytes);
         }
-        before[number] = frame;
-        some = some || frame.some;
     }
     return some;
 }

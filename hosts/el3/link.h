@@ -11,6 +11,9 @@ extern struct psci_place firmware;
 /* Each core's own way to ask for the status of a core, without the lock. */
 extern struct psci_poller pollers[CORES];
 
+/* What each core's monitor keeps, which no other one touches. */
+extern struct psci_port_core sides[CORES];
+
 /* Around each call of the firmware. It works since a core turns its MMU and caches on before. */
 extern uint32_t taken;
 static inline void lock(void) {

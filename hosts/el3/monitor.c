@@ -26,27 +26,22 @@ static bool asks_of_smccc(const uint64_t *x) {
 /* What x1 names, of 32 or 64 bits. */
 static uint64_t named_by(const uint64_t *x) { return x[0] & SMC64 ? x[1] : (uint32_t)x[1]; }
 
-/* The code of a 64-bit function is sign-extended, that of a 32-bit one stands in the low half. */
-static uint64_t register_of(int32_t code, uint64_t word) {
-    return word & SMC64 ? (uint64_t)(int64_t)code : (uint32_t)code;
-}
-
 /* In standby and retention a core keeps its registers. A core that stops without a message has nothing
  * to come back to. */
-static bool keeps_registers(const struct psci_stop *how) {
-    return how->depths[0] == PSCI_CTL_STANDBY || how->depths[0] == PSCI_CTL_RETENTION;
+static bool keeps_registers(const uint8_t *depths) {
+    return depths[0] == PSCI_CTL_STANDBY || depths[0] == PSCI_CTL_RETENTION;
 }
 
 /* As deep as the core goes: what it alone has, or with its cluster all that leads to memory. */
-static enum caches caches_of(const struct psci_stop *how) {
-    if (keeps_registers(how))
+static enum caches caches_of(const uint8_t *depths) {
+    if (keeps_registers(depths))
         return NO_CACHES;
-    return how->depths[1] == PSCI_CTL_POWER_DOWN ? ALL_CACHES : OWN_CACHES;
+    return depths[1] == PSCI_CTL_POWER_DOWN ? ALL_CACHES : OWN_CACHES;
 }
 
-/* A stop, and in which start each core was about to stop before. */
-struct stop {
-    struct psci_stop how;
+/* What a call orders; and of a stop, in which start each core was about to stop before. */
+struct call {
+    struct psci_port_orders orders;
     uint64_t before[CORES];
 };
 
@@ -59,55 +54,58 @@ static void await_neighbours(unsigned core, const uint64_t *before) {
                 relax();
 }
 
-static void stop(unsigned core, const struct stop *stop) {
-    enum caches caches = caches_of(&stop->how);
+/* What goes into x0 of a core that comes back with its registers. */
+static uint64_t stop(unsigned core, const struct call *call) {
+    const uint8_t *depths = call->orders.depths;
+    enum caches caches = caches_of(depths);
     COUNT(stops);
     if (caches == ALL_CACHES)
-        await_neighbours(core, stop->before);
-    wait_for_start(core, stop->how.wakes, caches);
-    if (!keeps_registers(&stop->how))
+        await_neighbours(core, call->before);
+    wait_for_start(&sides[core], caches);
+    if (!keeps_registers(depths))
         cold();
-    enter(core);
+    return enter(&sides[core]);
 }
 
-static void refused(unsigned core, const struct psci_answer *answer) {
+static void refused(unsigned core, const struct psci_port_orders *orders) {
     COUNT(refused);
-    say("# el3: a call of core %u was refused: %u\n", core, answer->what);
+    say("# el3: a call of core %u was refused: %u\n", core, orders->next);
 }
 
 /* Under the lock. */
-static void prepare_stop(unsigned core, uint64_t x0, struct stop *stop) {
-    psci_stop(&firmware, core, x0, &stop->how);
+static void prepare_stop(unsigned core, struct call *call) {
     begin_stop(core);
     for (unsigned other = 0; other < CORES; other++)
-        stop->before[other] = shared.doors[other].leaves;
+        call->before[other] = shared.doors[other].leaves;
 }
 
-/* The answer and, where the core is to stop, how; and the message stands in the mailbox. */
-static void ask(unsigned core, const uint64_t *x, struct psci_answer *answer, struct stop *stop) {
+/* What the call orders, and its message stands in the mailbox. */
+static void ask(unsigned core, const uint64_t *x, struct call *call) {
     lock();
     take_acks();
-    psci_smc(&firmware, core, x[0], x[1], x[2], x[3], answer);
-    if (answer->what == PSCI_STOP)
-        prepare_stop(core, x[0], stop);
-    record_call(x, answer);
-    post(&answer->message);
+    psci_port_call(&firmware, &sides[core], x[0], x[1], x[2], x[3], &call->orders);
+    if (call->orders.next == PSCI_PORT_STANDS)
+        prepare_stop(core, call);
+    record_call(x, &call->orders);
+    post(&call->orders.message);
     unlock();
 }
 
 /* What goes into x0. */
 static uint64_t on_call(unsigned core, const uint64_t *x) {
-    struct psci_answer answer;
-    struct stop how;
-    ask(core, x, &answer, &how);
-    if (answer.what == PSCI_RETURN)
-        return register_of(answer.code, x[0]);
-    if (answer.what != PSCI_STOP) {
-        refused(core, &answer);
-        return ~0ull;
-    }
-    stop(core, &how);
-    return 0;
+    struct call call;
+    ask(core, x, &call);
+    if (call.orders.next == PSCI_PORT_LEAVES)
+        return call.orders.x0;
+    if (call.orders.next == PSCI_PORT_STANDS)
+        return stop(core, &call);
+    refused(core, &call.orders);
+    return ~0ull;
+}
+
+/* The code of a 64-bit function is sign-extended, that of a 32-bit one stands in the low half. */
+static uint64_t register_of(int32_t code, uint64_t word) {
+    return word & SMC64 ? (uint64_t)(int64_t)code : (uint32_t)code;
 }
 
 /* It is answered by one load, without the lock: who holds it is not waited for. */
@@ -126,16 +124,20 @@ _Noreturn void on_unexpected(uint64_t vector, uint64_t esr, uint64_t elr, uint64
         wait_for_interrupt();
 }
 
+/* The last thing of a call. */
+static void leave(uint64_t *x, uint64_t x0) {
+    record_leaves(x0);
+    x[0] = x0;
+}
+
 void on_exception(struct context *context, uint64_t esr) {
     uint64_t *x = context->x;
     if (esr >> 26 != 0x17) /* no SMC of AArch64 */
         on_unexpected(8, esr, read_register("elr_el3"), read_register("far_el3"));
     else if (!is_psci(x[0]) || asks_of_smccc(x))
         x[0] = answer_beside(x);
-    else if (is_poll(x))
-        x[0] = on_poll(this_core(), x);
     else
-        x[0] = on_call(this_core(), x);
+        leave(x, is_poll(x) ? on_poll(this_core(), x) : on_call(this_core(), x));
 }
 
 void on_fiq(void) {

@@ -5,6 +5,7 @@
 #include "context.h"
 #include "gic.h"
 #include "machine.h"
+#include "psci_port.h"
 
 #include <stdbool.h>
 #include <stdint.h>
@@ -26,11 +27,12 @@ void stand(const struct last_word *, enum caches);
 /* features.c */
 void open_features(void);
 
-/* entry.c: an entry comes back where the core resumes, with the registers that it kept. */
+/* entry.c: a core waits at its door until it takes up a start; an entry comes back where it resumes, with what goes into
+ * x0, beside the registers that it kept. */
 _Noreturn void on_reset(void);
-void enter(unsigned core);
 void begin_stop(unsigned core); /* under the lock: the core is about to stop */
-void wait_for_start(unsigned core, bool wakes, enum caches);
+void wait_for_start(struct psci_port_core *, enum caches caches);
+uint64_t enter(struct psci_port_core *);
 
 /* smccc.c: what goes into x0 of a call that is none of the firmware's, but of the calling convention
  * itself, or nobody's. */

@@ -4,14 +4,10 @@
 #include "link.h"
 #include "power.h"
 #include "record.h"
-#include "string.h"
 
 void send(const struct psci_frame *message) {
-    struct message it = {.fields = {0}};
     COUNT(messages);
-    memcpy(it.frame, message->bytes, PSCI_FRAME_LEN);
-    psci_decode(&kept.reader, it.frame, PSCI_FRAME_LEN, &it.fields);
-    carry_out(&it);
+    carry_out(message->bytes);
 }
 
 void acknowledge(const uint8_t *frame) {
@@ -25,29 +21,33 @@ void acknowledge(const uint8_t *frame) {
 }
 
 /* Under the lock, so that no call comes between the word and what has waited for it. The core has its caches left to
- * clean: its power goes with its WFI, and no earlier. */
-struct last_word tell_stop(unsigned core, uint64_t used, enum caches caches) {
-    struct door *door = &shared.doors[core];
+ * clean: it is armed, and its power goes with its WFI, and no earlier. */
+struct last_word tell_stop(struct psci_port_core *side, enum caches caches) {
+    struct door *door = &shared.doors[side->core];
     lock();
-    record_stands(used);
-    STORE(door->stopped, used);
+    psci_port_arms(side);
+    record_stands(side->used);
+    STORE(door->stopped, side->used);
     if (caches == NO_CACHES)
-        STORE(door->clean, used);
-    while (serve_waiting()) {
-    }
+        STORE(door->clean, side->used);
+    serve_waiting(side->core);
     unlock();
-    return (struct last_word){.word = &door->clean, .says = used};
+    return (struct last_word){.word = &door->clean, .says = side->used};
 }
 
 uint64_t clean_start(unsigned core) { return behind_caches(&shared.doors[core].clean); }
 
-void tell_wake_up(unsigned core, uint64_t used) {
+/* The interrupt has brought the core back, if it was in its WFI: it is armed again. Who was started since hears of no
+ * wake-up, and goes to its door. */
+void tell_wake_up(struct psci_port_core *side) {
+    psci_port_rouses(side);
     lock();
-    STORE(shared.doors[core].woken, used);
-    if (shared.doors[core].opened == used)
-        wake(core);
+    psci_port_rises(side, wake(side->core));
     unlock();
+    psci_port_turns(side);
 }
+
+void stop_calls(void) {} /* who has the lock is here */
 
 /* There are no rings, and no timer sends again. */
 void take_ack(void) {}

@@ -1,43 +1,45 @@
-/* What is delivered to the proved power controller when, and what the power hardware does with its answers. Who runs
- * this is one at a time: a core of its own (scp.c), or whoever holds the lock (monitors.c). */
+/* What the power hardware does with the orders of the proved power controller. Who runs this is one at a time: a core of
+ * its own (scp.c), or whoever holds the lock (monitors.c). */
 #include "power.h"
 #include "console.h"
 #include "hooks.h"
 #include "link.h"
 #include "record.h"
 
-/* Of each core a Down that waits for its core's stop, if one does. */
-static struct { bool some; struct message down; } waiting[CORES];
-
-static uint64_t present_start(unsigned core) {
-    return start_word(psci_ctl_life(&kept.controller), psci_ctl_starts(&kept.controller, core));
-}
-
 /* It does in its stop, and before its first start. */
-bool stands_still(unsigned core) {
+static bool stands_still(unsigned core) {
     return behind_caches(&shared.doors[core].stopped) == shared.doors[core].opened;
 }
 
 /* What the power hardware does ------------------------------------------------------------------ */
 
 /* The core comes out of reset, and finds this start. One that was woken, and one that boots, was not reset for it. */
-static void open_door(const struct psci_ctl_start *start) {
-    struct door *door = &shared.doors[start->core];
+static bool bring_back(const struct psci_ctl_start *start) {
     bool is_reset = start->cause == PSCI_CAUSE_ON || start->cause == PSCI_CAUSE_RESET;
     if (is_reset) {
-        while (clean_start(start->core) != LOAD(door->leaves))
+        while (clean_start(start->core) != LOAD(shared.doors[start->core].leaves))
             relax(); /* what a line cuts is lost */
         board_resets(start->core);
     }
-    door->start = *start;
-    STORE(door->opened, start_word(start->life, start->number));
-    board_starts(start->core, is_reset);
+    return is_reset;
 }
 
-void open_first_door(void) {
-    struct psci_ctl_start start;
-    psci_ctl_started(&kept.controller, 0, &start);
-    open_door(&start);
+void open_door(unsigned core) {
+    struct door *door = &shared.doors[core];
+    struct psci_port_door due;
+    bool was_reset = false;
+    for (;;)
+        switch (psci_control_door(&kept.control, core, &due)) {
+        case PSCI_CONTROL_WRITE:
+            was_reset = bring_back(&due.start);
+            door->start = due.start;
+            break;
+        case PSCI_CONTROL_OPEN:
+            STORE(door->opened, due.opened);
+            board_starts(core, was_reset);
+            break;
+        default: return;
+        }
 }
 
 /* A domain goes to its depth. QEMU's cores keep their power, so a switch that would cut a core which
@@ -81,69 +83,69 @@ static _Noreturn void end_life(bool resets) {
     board_ends(resets);
 }
 
-/* The domains of an answer, before anything of it is seen. */
-static void switch_power(const struct psci_ctl_answer *answer) {
-    for (unsigned k = 0; k < answer->many; k++)
-        switch_domain(&answer->domains[k]);
-    if (answer->what >= PSCI_CTL_NO_PLACE) {
+/* The domains of an order, before anything of it is seen. */
+static void switch_power(const struct psci_control_orders *orders) {
+    for (unsigned k = 0; k < orders->many; k++)
+        switch_domain(&orders->domains[k]);
+    if (orders->what > PSCI_CONTROL_WAITS) {
         COUNT(refused);
-        say("# el3: the power controller refused: %u\n", answer->what);
+        say("# el3: the power controller refused: %u\n", orders->what);
     }
 }
 
 /* And then: the acknowledgement goes back, a core is started, or the life ends. */
-static void obey(const struct psci_ctl_answer *answer) {
-    if (answer->ack.some)
-        acknowledge(answer->ack.bytes);
-    if (answer->what == PSCI_CTL_START)
-        open_door(&answer->start);
-    if (answer->what == PSCI_CTL_OFF || answer->what == PSCI_CTL_RESTART)
-        end_life(answer->what == PSCI_CTL_RESTART);
+static void obey(const struct psci_control_orders *orders) {
+    if (orders->ack.some)
+        acknowledge(orders->ack.bytes);
+    if (orders->start.number)
+        open_door(orders->start.core);
+    if (orders->ends)
+        end_life(orders->ends == PSCI_CONTROL_RESTART);
 }
 
 /* What comes to it --------------------------------------------------------------------------- */
 
-static void deliver(const struct message *message) {
-    struct psci_ctl_answer answer;
-    psci_ctl_deliver(&kept.controller, message->frame, PSCI_FRAME_LEN, &answer);
-    switch_power(&answer);
-    record_deliver(message->frame, &answer);
-    obey(&answer);
+void hear(unsigned core) {
+    psci_control_stands(&kept.control, core, behind_caches(&shared.doors[core].stopped));
 }
 
-/* The rule that a Down waits: one of its core's present start is delivered only once the core stands in
- * its stop of that start. One of an earlier start is stale, and goes at once, as all else does. */
-static bool has_to_wait(const struct psci_message *it) {
-    return it->kind == PSCI_MESSAGE_DOWN && !stands_still(it->core)
-        && start_word(it->life, it->number) == present_start(it->core);
+static void deliver(const uint8_t *frame, const struct psci_control_orders *orders) {
+    if (orders->ends)
+        stop_calls();
+    switch_power(orders);
+    record_deliver(frame, orders);
+    obey(orders);
 }
 
-void carry_out(const struct message *message) {
-    if (has_to_wait(&message->fields)) {
-        COUNT(waited);
-        waiting[message->fields.core].some = true;
-        waiting[message->fields.core].down = *message;
-    } else {
-        deliver(message);
+void carry_out(const uint8_t *frame) {
+    struct psci_control_orders orders;
+    psci_control_message(&kept.control, frame, PSCI_FRAME_LEN, &orders);
+    if (orders.what != PSCI_CONTROL_WAITS) {
+        deliver(frame, &orders);
+        return;
     }
+    COUNT(waited);
+    record_waits(frame);
 }
 
-bool serve_waiting(void) {
-    for (unsigned core = 0; core < CORES; core++)
-        if (waiting[core].some && !has_to_wait(&waiting[core].down.fields)) {
-            waiting[core].some = false;
-            deliver(&waiting[core].down);
-            return true;
-        }
-    return false;
+bool serve_waiting(unsigned core) {
+    struct psci_control_orders orders;
+    hear(core);
+    psci_control_waited(&kept.control, core, &orders);
+    if (orders.what != PSCI_CONTROL_ORDERS)
+        return false;
+    deliver(record_waited(core), &orders);
+    return true;
 }
 
-void wake(unsigned core) {
-    struct psci_ctl_answer answer;
-    uint32_t halted = shared.doors[core].start.number;
-    psci_ctl_wake(&kept.controller, core, halted, &answer);
+bool wake(unsigned core) {
+    struct psci_control_orders orders;
+    hear(core);
+    psci_control_wake(&kept.control, core, &orders);
+    if (orders.what != PSCI_CONTROL_ORDERS)
+        return false;
     COUNT(wakes);
-    switch_power(&answer);
-    record_wake(core, halted, &answer);
-    obey(&answer);
+    record_wake(core, shared.doors[core].opened, &orders);
+    obey(&orders);
+    return orders.start.number != 0;
 }

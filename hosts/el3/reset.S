@@ -104,13 +104,11 @@ rung:   bl      on_fiq
         leave
 
         .text
-/* _Noreturn void leave_for(uint64_t address, uint64_t x0): enters the normal world there, at EL2
- * with all interrupts masked. No other register says anything, and the stack is empty again. */
+/* _Noreturn void leave_for(uint64_t address, uint64_t x0): enters the normal world there, in the state of normal.S. No
+ * other register says anything, and the stack is empty again. */
         .global leave_for
 leave_for:
         msr     elr_el3, x0
-        mov     x2, #0x3c9
-        msr     spsr_el3, x2
         mov     x0, x1
         own_stack x1
         .irp    n, 1,2,3,4,5,6,7,8,9,10,11,12,13,14,15,16,17,18,19,20,21,22,23,24,25,26,27,28,29,30

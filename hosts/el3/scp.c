@@ -6,53 +6,45 @@
 #include "power.h"
 #include "record.h"
 
-/* A core that executes is rung. Where none does, the next one that enters takes it. */
+/* A core that executes is rung, by what all have said by now. Where none does, the next one that enters takes it. */
 void acknowledge(const uint8_t *frame) {
     put_frame(&shared.acks, frame);
     for (unsigned core = 0; core < CORES; core++)
-        if (!stands_still(core)) {
-            gic_ring(core);
-            return;
-        }
+        hear(core);
+    uint16_t rung = psci_control_rings(&kept.control);
+    if (rung < CORES)
+        gic_ring(rung);
 }
 
-/* The next message, if there is one. What is no frame of the board has no kind: it goes on to the power
- * controller, which refuses it. */
-static bool get_message(struct message *message) {
-    message->fields = (struct psci_message){0};
-    if (!get_frame(&shared.messages, message->frame))
-        return false;
-    psci_decode(&kept.reader, message->frame, PSCI_FRAME_LEN, &message->fields);
-    return true;
-}
+/* No core is inside a call from now on, nor makes one. */
+void stop_calls(void) { lock(); }
 
-/* Off and Reset are carried out with the lock in hand: no core is inside a call then, nor makes one. */
 static bool serve_message(void) {
-    struct message message;
-    if (!get_message(&message))
+    struct slot message;
+    if (!get_frame(&shared.messages, message.frame.bytes))
         return false;
-    bool ends = message.fields.kind == PSCI_MESSAGE_OFF || message.fields.kind == PSCI_MESSAGE_RESET;
-    if (ends)
-        lock();
-    carry_out(&message);
-    if (ends)
-        unlock();
+    carry_out(message.frame.bytes);
     return true;
+}
+
+static bool serve_stops(void) {
+    for (unsigned core = 0; core < CORES; core++)
+        if (serve_waiting(core))
+            return true;
+    return false;
 }
 
 /* An interrupt waits for the core in its stop of this start, of which nothing was heard before: by what is heard it is
  * started, and its door has another start. */
 static bool is_woken(unsigned core) {
     const struct door *door = &shared.doors[core];
-    return door->opened && stands_still(core) && LOAD(door->woken) == door->opened;
+    return door->opened && LOAD(door->woken) == door->opened;
 }
 
 static bool serve_wake(void) {
     for (unsigned core = 0; core < CORES; core++)
-        if (is_woken(core)) {
-            wake(core);
+        if (is_woken(core) && wake(core))
             return true;
-        }
     return false;
 }
 
@@ -80,10 +72,10 @@ static void keep_time(void) {
 }
 
 void control_power(void) {
-    open_first_door();
+    open_door(0);
     for (;;) {
         keep_time();
-        while (serve_message() || serve_waiting() || serve_wake() || record_tell()) {
+        while (serve_message() || serve_stops() || serve_wake() || record_tell()) {
         }
         wait_for_interrupt();
     }

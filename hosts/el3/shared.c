@@ -4,4 +4,5 @@
 struct shared shared;
 struct psci_place firmware;
 struct psci_poller pollers[CORES];
+struct psci_port_core sides[CORES];
 uint32_t taken;

@@ -3,22 +3,18 @@
 #define SHARED_H
 
 #include "board.h"
-#include "psci_ctl.h"
+#include "psci_port.h"
 
 #define LOAD(place) __atomic_load_n(&(place), __ATOMIC_SEQ_CST)
 #define PEEK(place) __atomic_load_n(&(place), __ATOMIC_RELAXED) /* what is behind it, LOAD shows */
 #define STORE(place, value) __atomic_store_n(&(place), value, __ATOMIC_SEQ_CST)
 
-/* A start of a core, in one word; 0 is none. */
-static inline uint64_t start_word(uint32_t life, uint32_t number) {
-    return (uint64_t)life << 32 | number;
-}
-
 /* At least as long as a line of the caches of any core. */
 enum { LINE = 256 };
 #define OWN_LINE __attribute__((aligned(LINE)))
 
-/* A core and the power controller. Each word has one writer, and what is written behind caches shares no line. */
+/* A core and the power controller, of which each begins a life with zeros: a start is named by its number. Each word has
+ * one writer, and what is written behind caches shares no line. */
 struct door {
     struct psci_ctl_start start; /* the controller: the core's last start, and then */
     uint64_t opened;             /* that it is to enter by this one */
@@ -36,7 +32,7 @@ enum { MOST_FRAMES = 256 };
 enum { MOST_FRAMES = 1 };
 #endif
 struct ring {
-    uint8_t frames[MOST_FRAMES][PSCI_FRAME_LEN];
+    struct slot { struct psci_frame frame; } __attribute__((aligned(8))) slots[MOST_FRAMES]; /* as orders have it */
     uint32_t first, end;
 };
 
@@ -55,8 +51,7 @@ struct tally {
 /* What a reset of the machine leaves: the power controller counts lives on. */
 struct kept {
     uint32_t boot; /* 0 as the power comes on, WARM as a reset is ordered, READY once the boot core is through */
-    struct psci_ctl_place controller;
-    struct psci_place reader; /* the control processor's own: it reads frames by it, and makes no call */
+    struct psci_control_place control;
     struct tally tally;
 };
 enum { READY = 0x52454459, WARM = 0x5741524d };

@@ -15,9 +15,9 @@ extern char data_start[], data_end[], data_load[], bss_start[], bss_end[], kept_
 struct kept kept __attribute__((section(".kept")));
 
 /* The heaps, which the library asks as it opens and at no other time: of the firmware with its machine; of the power
- * controller and of the reader of frames. */
+ * controller. */
 static unsigned char heap[POOL_SIZE(CORES) + POOL_MACHINE_SIZE(CORES)] __attribute__((aligned(16)));
-static unsigned char kept_heap[2 * POOL_SIZE(CORES)] __attribute__((aligned(16), section(".kept")));
+static unsigned char kept_heap[POOL_SIZE(CORES)] __attribute__((aligned(16), section(".kept")));
 
 static void check(const char *what, uint32_t opened) {
     if (opened == PSCI_OPENED)
@@ -30,8 +30,10 @@ static void check(const char *what, uint32_t opened) {
 static void open_firmware(void) {
     pool_give(heap, sizeof heap);
     check("the firmware", psci_open_machine(&firmware, &board, &described, BOOT));
-    for (unsigned core = 0; core < CORES; core++)
+    for (unsigned core = 0; core < CORES; core++) {
         check("a poller", psci_open_poller(&firmware, &pollers[core]));
+        psci_port_new(&sides[core], core);
+    }
     if (kept.boot != WARM)
         say("# el3: heap of the firmware: %u\n", (unsigned)pool_taken());
 }
@@ -39,9 +41,8 @@ static void open_firmware(void) {
 static void open_controller(void) {
     memset(kept_start, 0, kept_end - kept_start);
     pool_give(kept_heap, sizeof kept_heap);
-    check("the power controller", psci_ctl_open_board(&kept.controller, &board));
+    check("the power controller", psci_control_open_board(&kept.control, &board));
     say("# el3: heap of the power controller: %u\n", (unsigned)pool_taken());
-    check("the reader of frames", psci_open_board(&kept.reader, &board));
     record_board();
 }
 
@@ -60,7 +61,7 @@ void start_machine(void) {
         open_controller();
     open_firmware();
 #ifndef SCP_MPIDR
-    open_first_door();
+    open_door(0);
 #endif
     gic_start();
 }

@@ -1,5 +1,5 @@
 /* A PL011 of which the data register alone does anything, and a PL031, whose alarm ends a suspend to memory. */
-#include "vmm.h"
+#include "move.h"
 
 #include <stdio.h>
 #include <string.h>
@@ -7,14 +7,16 @@
 
 static pthread_mutex_t devices = PTHREAD_MUTEX_INITIALIZER;
 static struct {
-    uint32_t match, mask, pending;
+    uint32_t match, mask, pending, was; /* was: the level of its line */
 } alarm_clock;
 enum { TIME = 0x0, MATCH = 0x4, MASK = 0x10, PENDING = 0x14, MASKED = 0x18, CLEAR = 0x1c };
 
 static void print(uint64_t at, uint8_t letter) {
     if (at == UART)
-        putchar(letter);
+        hear((char)putchar(letter));
 }
+
+void pass_alarm(void) { pass(&alarm_clock, sizeof alarm_clock); }
 
 /* What was written since, in a ring of KVM's. */
 static void drain(void) {
@@ -28,7 +30,6 @@ static void drain(void) {
 }
 
 static void ring_alarm(void) {
-    static uint32_t was;
     uint32_t now = (uint32_t)time(0);
     if (alarm_clock.match && now >= alarm_clock.match) {
         alarm_clock.pending = 1;
@@ -36,9 +37,9 @@ static void ring_alarm(void) {
     }
     uint32_t level = alarm_clock.pending & alarm_clock.mask;
     struct kvm_irq_level it = {{KVM_ARM_IRQ_TYPE_SPI << KVM_ARM_IRQ_TYPE_SHIFT | (32 + CLOCK_LINE)}, level};
-    if (level != was)
+    if (level != alarm_clock.was)
         ask(machine, KVM_IRQ_LINE, &it, "an interrupt");
-    was = level;
+    alarm_clock.was = level;
 }
 
 static uint32_t read_clock(uint64_t at) {

@@ -1,12 +1,13 @@
 /* The machine as KVM makes it. */
-#include "vmm.h"
+#include "move.h"
 
 #include <fcntl.h>
 #include <stdio.h>
+#include <string.h>
 #include <sys/ioctl.h>
 #include <sys/mman.h>
 
-int machine;
+int machine, interrupts;
 static uint8_t *memory;
 
 void load(const char *name, uint64_t at) {
@@ -14,6 +15,17 @@ void load(const char *name, uint64_t at) {
     if (!file || !fread(memory + at, 1, MEMORY_SIZE - at, file))
         fail(name ? name : "nothing to load");
     fclose(file);
+}
+
+/* Page by page, without those that are empty. */
+void pass_memory(void) {
+    static const uint8_t empty[PAGE];
+    for (uint64_t at = 0; at < MEMORY_SIZE; at += PAGE) {
+        bool has_some = memcmp(memory + at, empty, PAGE);
+        pass(&has_some, sizeof has_some);
+        if (has_some)
+            pass(memory + at, PAGE);
+    }
 }
 
 static void *give_memory(uint32_t slot, uint64_t at, size_t size, uint32_t flags) {
@@ -41,6 +53,7 @@ static void open_interrupts(void) {
     struct kvm_create_device gic = {.type = KVM_DEV_TYPE_ARM_VGIC_V3};
     uint64_t distributor = DISTRIBUTOR, redistributors = REDISTRIBUTORS;
     ask(machine, KVM_CREATE_DEVICE, &gic, "a GIC of version 3");
+    interrupts = gic.fd;
     set_attribute(gic.fd, KVM_DEV_ARM_VGIC_GRP_ADDR, KVM_VGIC_V3_ADDR_TYPE_DIST, &distributor, "the GIC");
     set_attribute(gic.fd, KVM_DEV_ARM_VGIC_GRP_ADDR, KVM_VGIC_V3_ADDR_TYPE_REDIST, &redistributors, "the GIC");
     set_attribute(gic.fd, KVM_DEV_ARM_VGIC_GRP_CTRL, KVM_DEV_ARM_VGIC_CTRL_INIT, 0, "the GIC");

@@ -1,86 +1,87 @@
-/* The record of a run, as docs/compare/RECORD.md has it. */
+/* The record of a run, as docs/compare/RECORD.md has it. What a line says is the library's (psci_record.h). */
 #include "vmm.h"
+
+#include "psci_record.h"
 
 #include <inttypes.h>
 #include <stdio.h>
+#include <string.h>
 
-#define say(...) fprintf(record, __VA_ARGS__)
+enum { KIND = 2, COUNT = 12 }; /* where these bytes of a frame stand */
 static FILE *record;
+static struct psci_record_line line;
 
-static void say_frame(const char *before, const struct psci_frame *frame) {
-    unsigned many = PSCI_FRAME_LEN;
-    say("%s", before);
-    while (many && !frame->bytes[many - 1])
-        many--;
-    for (unsigned k = 0; k < many; k++)
-        say("%02x", frame->bytes[k]);
+/* Byte by byte: of who writes without the lock it shows. */
+static void say_line(void) {
+    for (uint32_t at = 0; at < line.length; at++)
+        putc(line.text[at], record);
 }
 
-static void say_answer(const struct psci_answer *answer) {
-    switch (answer->what) {
-    case PSCI_RETURN: say("return %" PRId32, answer->code); break;
-    case PSCI_STOP: say("stop"); break;
-    case PSCI_ENTER: say("enter 0x%" PRIx64 " 0x%" PRIx64, answer->address, answer->context); break;
-    case PSCI_RESUME: say("resume"); break;
-    default: say("refused %" PRIu32, answer->what);
-    }
-    if (answer->message.some)
-        say_frame(" ", &answer->message);
-    say("\n");
-}
+/* A core, by the MPIDR that it reads. */
+#define NAMED(core) (&(struct psci_record_core){.is_mpidr = true, .word = (core)->mpidr})
 
-static void say_reply(const struct psci_ctl_answer *answer) {
-    if (answer->what >= PSCI_CTL_NO_PLACE)
-        say("refused %" PRIu32, answer->what);
-    else if (answer->ack.some)
-        say_frame("", &answer->ack);
-    else if (answer->what == PSCI_CTL_START)
-        say("started %" PRIu32, answer->start.number);
-    else
-        say("ignored");
-    say("\n");
-}
-
+/* Without a board it goes on with what another monitor has begun. */
 void record_into(const char *name, const char *board) {
-    record = fopen(name, "w");
+    record = fopen(name, board ? "w" : "a");
     if (!record)
         fail(name);
-    say("board %s\nmpidr", board);
+    if (!board) {
+        fprintf(record, "# moved\n");
+        return;
+    }
+    fprintf(record, "board %s\nmpidr", board);
     for (const struct core *core = cores; core < cores + many_cores; core++)
-        say(" 0x%" PRIx64, core->mpidr);
-    say("\ntells stands\n");
+        fprintf(record, " 0x%" PRIx64, core->mpidr);
+    fprintf(record, "\ntells stands\n");
     if (PSCI_IS_UNPROVED)
-        say("# library unproved\n");
+        fprintf(record, "# library unproved\n");
+    record_enter(cores);
 }
 
 void record_call(const struct core *core, const uint64_t *x, const struct psci_answer *answer) {
-    say("call 0x%" PRIx64 " 0x%" PRIx64 " 0x%" PRIx64 " 0x%" PRIx64 " 0x%" PRIx64 " -> ", core->mpidr, x[0], x[1],
-        x[2], x[3]);
-    say_answer(answer);
+    psci_record_call(&line, NAMED(core), x[0], x[1], x[2], x[3], answer);
+    say_line();
 }
 
-void record_enter(const struct core *core, const struct psci_answer *answer) {
-    say("enter 0x%" PRIx64 " %" PRIu32 " %" PRIu32 " %" PRIu32 " -> ", core->mpidr, core->start.life,
-        core->start.number, core->start.cause);
-    say_answer(answer);
+/* What a turn delivers is carried out whole, but for a Start of a core that can be started no more: so its
+ * acknowledgement, which is taken, has the message's own count of parts, or says whether there was a start. */
+void record_message(const struct psci_frame *message, uint32_t start) {
+    struct psci_frame ack = *message;
+    if (!message->some)
+        return;
+    bool is_late = message->bytes[KIND] == PSCI_MESSAGE_START && !start;
+    ack.bytes[KIND] += is_late ? PSCI_STALE_ACK : PSCI_ACK;
+    if (message->bytes[KIND] != PSCI_MESSAGE_DOWN)
+        ack.bytes[COUNT] = !is_late;
+    memset(ack.bytes + COUNT + 1, 0, PSCI_FRAME_LEN - COUNT - 1);
+    psci_record_deliver(&line, message->bytes, PSCI_CTL_NOTHING, &ack);
+    say_line();
+    psci_record_take(&line, ack.bytes, PSCI_USED);
+    say_line();
 }
 
-void record_stands(const struct core *core) { say("stands 0x%" PRIx64 " %" PRIu32 "\n", core->mpidr, core->start.number); }
-
-void record_deliver(const struct psci_frame *message, const struct psci_ctl_answer *answer) {
-    say_frame("deliver ", message);
-    say(" -> ");
-    say_reply(answer);
+static void say_stands(const struct core *core, uint32_t number) {
+    psci_record_stands(&line, NAMED(core), number);
+    say_line();
 }
 
-void record_wake(const struct core *core, const struct psci_ctl_answer *answer) {
-    say("wake %u %" PRIu32 " -> ", (unsigned)(core - cores), core->start.number);
-    say_reply(answer);
+/* The boot core's first entry comes before there is a record: record_into says it. */
+void record_enter(const struct core *core) {
+    if (!record)
+        return;
+    psci_record_enter(&line, NAMED(core), &core->next, &core->entry);
+    say_line();
+    if (core->entry.what == PSCI_STOP)
+        say_stands(core, core->next.number);
+    record_message(&core->entry.message, 0);
 }
 
-void record_take(const struct psci_frame *ack, uint32_t what) {
-    say_frame("take ", ack);
-    say(what > PSCI_OLD ? " -> refused %u\n" : what == PSCI_OLD ? " -> old\n" : " -> used\n", what);
+void record_stands(const struct core *core) { say_stands(core, core->start.number); }
+
+void record_wake(const struct core *core, const struct psci_guest_turn *turn) {
+    struct psci_record_core number = {.word = core - cores};
+    psci_record_wake(&line, &number, core->start.number, turn->what, turn->start.number);
+    say_line();
 }
 
 void end_record(void) {

@@ -1,7 +1,8 @@
 /* Runs an Image until it turns its system off:
- *     vmm [-b BOARD] [-r RECORD] [-l] IMAGE TREE [INITRD]
- * With -l each letter of its console is an exit. */
-#include "vmm.h"
+ *     vmm [-b BOARD] [-r RECORD] [-l] [-m FILE [-n CALLS [-c WORD]] [-t TEXT]] [-f FILE] IMAGE TREE [INITRD]
+ * With -l each letter of its console is an exit. With -m the guest leaves into FILE: after so many calls, of this word
+ * alone, or once its console has said TEXT. With -f it comes from FILE. */
+#include "move.h"
 
 #include <errno.h>
 #include <inttypes.h>
@@ -11,8 +12,11 @@
 #include <sys/ioctl.h>
 #include <unistd.h>
 
-static const char *image, *tree, *initrd;
+static const char *board = "(2 2) exec 0x40000000-0x50000000 boot 0x40200000 starts 4294967295 lives 65535";
+static const char *image, *tree, *initrd, *record = "/dev/null", *from;
+static bool has_ring = true;
 static pthread_barrier_t all;
+static bool is_empty; /* no thread of a core is left */
 
 static void load_all(void) {
     load(image, KERNEL);
@@ -31,8 +35,10 @@ void call_back(struct core *core) {
 static bool next_life(struct core *core) {
     bool boots = core == cores;
     pthread_barrier_wait(&all);
-    if (life == IS_OFF)
+    if (life >= IS_OFF) {
+        __atomic_store_n(&is_empty, true, __ATOMIC_SEQ_CST);
         return false;
+    }
     core->run->immediate_exit = 0;
     core->executes = false;
     core->is_open = boots;
@@ -43,6 +49,19 @@ static bool next_life(struct core *core) {
     }
     pthread_barrier_wait(&all);
     return true;
+}
+
+/* Where the life ends meanwhile, the guest leaves in the next one. */
+static void leave_if_due(void) {
+    if (!is_due())
+        return;
+    pthread_mutex_lock(&lock);
+    if (life == GOES_ON) {
+        life = LEAVES;
+        for (struct core *core = cores; core < cores + many_cores; core++)
+            call_back(core);
+    }
+    pthread_mutex_unlock(&lock);
 }
 
 static bool is_woken(const struct kvm_run *run) {
@@ -56,7 +75,10 @@ static void run_once(struct core *core) {
         if (errno != EINTR && errno != EAGAIN)
             fail("KVM_RUN");
     } else if (run->exit_reason == KVM_EXIT_HYPERCALL) {
+        if (departure.into)
+            count_call(get_x(core, 0));
         call(core);
+        leave_if_due();
     } else if (run->exit_reason == KVM_EXIT_MMIO) {
         access_memory(run);
     } else if (is_woken(run)) {
@@ -100,36 +122,51 @@ static void start_cores(void) {
     pthread_mutex_unlock(&lock);
 }
 
-int main(int many, char **words) {
-    const char *board = "(2 2) exec 0x40000000-0x50000000 boot 0x40200000 starts 4294967295 lives 65535";
-    const char *record = "/dev/null";
-    bool has_ring = true;
-    struct sigaction action = {.sa_handler = nothing};
-    for (int letter; (letter = getopt(many, words, "b:r:l")) != -1;)
+static bool read_options(int many, char **words) {
+    for (int letter; (letter = getopt(many, words, "b:r:lm:n:c:t:f:")) != -1;)
         switch (letter) {
         case 'b': board = optarg; break;
         case 'r': record = optarg; break;
         case 'l': has_ring = false; break;
-        default: return 2;
+        case 'm': departure.into = optarg; break;
+        case 'n': departure.calls = strtoul(optarg, 0, 0); break;
+        case 'c': departure.word = strtoul(optarg, 0, 0); break;
+        case 't': departure.text = optarg; break;
+        case 'f': from = optarg; break;
+        default: return false;
         }
     if (many - optind < 2)
-        return 2;
+        return false;
     image = words[optind];
     tree = words[optind + 1];
     initrd = words[optind + 2];
+    return true;
+}
+
+int main(int many, char **words) {
+    struct sigaction action = {.sa_handler = nothing};
+    if (!read_options(many, words))
+        return 2;
     sigaction(SIGUSR1, &action, 0);
-    open_library(board);
-    open_machine(has_ring);
-    load_all();
-    record_into(record, board);
+    if (from) {
+        pass_guest(from, false, board, has_ring);
+    } else {
+        open_library(board);
+        open_machine(has_ring);
+        load_all();
+    }
+    record_into(record, from ? 0 : board);
     start_cores();
-    while (__atomic_load_n(&life, __ATOMIC_SEQ_CST) != IS_OFF) {
+    while (!__atomic_load_n(&is_empty, __ATOMIC_SEQ_CST)) {
         usleep(50000);
         access_memory(0);
+        leave_if_due();
     }
     for (struct core *core = cores; core < cores + many_cores; core++)
         pthread_join(core->thread, 0);
     access_memory(0);
     end_record();
+    if (life == LEAVES)
+        pass_guest(departure.into, true, board, has_ring);
     return was_refused();
 }

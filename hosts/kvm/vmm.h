@@ -2,7 +2,7 @@
 #ifndef VMM_H
 #define VMM_H
 
-#include "psci_ctl.h"
+#include "psci_guest.h"
 
 #include <linux/kvm.h>
 #include <pthread.h>
@@ -27,18 +27,22 @@ struct core {
     pthread_t thread;
     pthread_cond_t bell;
     uint64_t affinity, mpidr;
-    struct psci_ctl_start start; /* its last one, by which it is to enter while the door is open */
+    /* From here on it is the guest's, whose monitors may change. */
+    struct psci_ctl_start start; /* by which its thread entered last */
+    struct psci_ctl_start next;  /* and by which it has entered since, while the door is open: how, is in entry */
+    struct psci_answer entry;
     bool is_open, executes;
     struct psci_stop how; /* of its last stop */
 };
 extern struct core cores[MOST_CORES];
 extern unsigned many_cores;
 
-/* One lock for firmware, power controller, doors, record and the end of a life. */
+/* One lock for the guest's power, doors, record and the end of a life. */
 extern pthread_mutex_t lock;
-extern enum life { GOES_ON, RESTARTS, IS_OFF } life;
+extern enum life { GOES_ON, RESTARTS, IS_OFF, LEAVES } life;
 
 /* cores.c: what the library decides. All but call and wake are called with the lock in hand. */
+extern struct psci_guest_place guest;
 void open_library(const char *board);
 void enter(struct core *core, struct psci_answer *answer);
 void call(struct core *core);
@@ -72,11 +76,10 @@ void access_memory(struct kvm_run *run);
 /* record.c: docs/compare/RECORD.md, written under the lock, so its order is that of the lock. */
 void record_into(const char *name, const char *board);
 void record_call(const struct core *core, const uint64_t *x, const struct psci_answer *answer);
-void record_enter(const struct core *core, const struct psci_answer *answer);
+void record_enter(const struct core *core);
 void record_stands(const struct core *core);
-void record_deliver(const struct psci_frame *message, const struct psci_ctl_answer *answer);
-void record_wake(const struct core *core, const struct psci_ctl_answer *answer);
-void record_take(const struct psci_frame *ack, uint32_t what);
+void record_message(const struct psci_frame *message, uint32_t start);
+void record_wake(const struct core *core, const struct psci_guest_turn *turn);
 void end_record(void);
 
 #endif

@@ -11,9 +11,8 @@ static struct psci_place firmware;
 static struct psci_ctl_place controller;
 static struct psci_poller pollers[PLATFORM_CORE_COUNT];
 
-/* By pool_size of hosts/pool.c, of which both with a poller for each core take a third or less. */
-static uint8_t heap[4096U + 1792U * PLATFORM_CORE_COUNT +
-                    32U * PLATFORM_CORE_COUNT * PLATFORM_CORE_COUNT] __aligned(16);
+/* Twice pool_size of hosts/pool.c, of which both with a poller for each core take two thirds or less. */
+static uint8_t heap[2U * (4096U + 384U * PLATFORM_CORE_COUNT)] __aligned(16);
 
 /* Held for calls of the library alone, by cores whose caches are on. */
 static spinlock_t lock;

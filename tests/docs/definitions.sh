@@ -30,7 +30,7 @@ docs/understand/EXAMPLES.md: there is no down_is_nmaed
 psci_abi: Calls.low_half has no comment
 docs/understand/definitions/psci_abi.md is another page than tools/definitions writes
 docs/understand/definitions/psci_none.md is another page than tools/definitions writes
-33 pages
+35 pages
 END
     answers "what tools/definitions tells"
     expect "what tools/definitions tells" 1

@@ -72,10 +72,10 @@ figures() {
     done
     overlooked "a sentence says less" port/TFA.md 's/`psci_open_board` takes [0-9,]*/`psci_open_board` takes 960/' 'TFA.md says 960'
     unseen "a state that was chosen" replayed \
-        's/^\[[0-9]*, \(0, "psci_smc", "CPU_SUSPEND, OS-initiated", "2x2", "board"\)/[428, \1/' \
-        'CPU_SUSPEND, OS-initiated on 2x2, board: .* and the stored list comes to 428'
-    unseen "a bound without what calls itself" bounds 's/^\(\["psci_close", {"x86-64": \)[0-9]*/\1432/' \
-        'psci_close: [0-9]* bytes of stack were taken, and the code is said to take 432'
+        's/^\[[0-9]*, \(0, "psci_smc", "CPU_SUSPEND, OS-initiated", "2x2", "board"\)/[300, \1/' \
+        'CPU_SUSPEND, OS-initiated on 2x2, board: .* and the stored list comes to 300'
+    unseen "a bound without what calls itself" bounds 's/^\(\["psci_open_machine", {"x86-64": \)[0-9]*/\1160/' \
+        'psci_open_machine: [0-9]* bytes of stack were taken, and the code is said to take 160'
 }
 
 # What the page says of the program and of a firmware that threads share is so; a table with another figure, and one with

@@ -1,7 +1,7 @@
 # The boards of the port at EL3 (hosts/el3/boards), sourced by ./test after tests/hosts/el3.sh: what is stored of each is that of
-# its file, each is built, and Linux and the payload on one of them, by the commit.
+# its file, each is built, Linux and the payload on each.
 
-places=(sbsa-ref zcu102 raspi3b)
+places=(sbsa-ref zcu102 raspi3b raspi3ap)
 # by a QEMU that Debian 12 does not have
 newer=(raspi4b ast2700)
 
@@ -21,6 +21,10 @@ el3_boards() {
     for name in virt "${places[@]}" "${newer[@]}"; do
         if board_compiles "$name" > "$work/out" 2>&1; then pass; else fail "hosts/el3/boards/$name"; cat "$work/out"; fi
     done
+    if board_compiles sbsa-ref "((8 8 8 8) (8 8 8 8))" > "$work/out" 2>&1; then pass; else fail "64 cores of sbsa-ref"; cat "$work/out"; fi
+    sed -i 's/^#define STACKS_END .*/#define STACKS_END (STACKS + 4 * STACK)/' "$fresh/boards/virt/place.h"
+    make -s -C "$fresh" TOP="$PWD" OUT="$work/stacks" TABLE=machines/four.h GIC=2 clean objects > "$work/out" 2>&1
+    if grep -q "there are not so many stacks" "$work/out"; then pass; else fail "stacks run into what is above them"; fi
 }
 
 # told_of_board TEXT NAME EDIT: what hosts/el3/boards.py says of a board that is changed
@@ -38,37 +42,38 @@ text_of_board() {
         "starts 4294967295 lives 65535"
 }
 
+# board_compiles NAME [CORES]
 board_compiles() {
     local gic=none file=hosts/el3/boards/$1/board
     ! grep -q '^gicv3 ' "$file" || gic=3
     ! grep -q '^gicv2 ' "$file" || gic=2
-    hosts/el3/machine text "$(text_of_board "$1")" "$1" > "$work/text" &&
+    hosts/el3/machine text "$(text_of_board "$1" "${2-}")" "$1" > "$work/text" &&
         hosts/el3/machine table "$work/text" "$1" > "$work/table.h" && rm -rf "$work/objects" &&
         make -s -C hosts/el3 TOP="$PWD" OUT="$work/objects" BOARD="$1" TABLE="$work/table.h" GIC=$gic FLAGS=-DRECORD objects
 }
 
-# one of the boards, by the commit: Linux with hotplug of each core, idle, suspend to memory, three lives, a reset that
-# nobody has ordered, and lists of the payload
-el3_live_places() {
+# each board: Linux with hotplug of each core, idle and suspend to memory, three lives, a reset that nobody has ordered,
+# lists of the payload, and faults
+el3_live_sbsa_ref() { on_board sbsa-ref; }
+el3_live_zcu102() { on_board zcu102; }
+el3_live_raspi3b() { on_board raspi3b; }
+el3_live_raspi3ap() { on_board raspi3ap; }
+el3_live_raspi4b() { by_newer_qemu on_board raspi4b; }
+el3_live_ast2700() { by_newer_qemu on_board ast2700; }
+el3_live_newer() { by_newer_qemu newer_processors; }
+newer_processors() {
     local took name
     can_boot || return
-    name=${places[$(($(git rev-list --count HEAD 2> /dev/null || echo 0) % ${#places[@]}))]}
-    [ "$name" != raspi3b ] || [ -e "$cache/trees/boot" ] || { skip "the board raspi3b" "$cache/trees/boot"; return; }
-    on_board "$name"
+    for name in neoverse-v1 neoverse-n2; do live "$name" --cpu "$name" --gic 3 each vectors; done
 }
 
-# processors and a board that QEMU has since version 10: that of Debian 13, where its root is here; at every third commit
-el3_live_newer() {
-    local took name root=${cache}/debian/user-trixie
-    can_boot || return
-    [ $(($(git rev-list --count HEAD 2> /dev/null || echo 0) % 3)) = 0 ] || return 0
+# by_newer_qemu COMMAND..: by that of Debian 13, where its root is here: version 10 has processors and boards more
+by_newer_qemu() {
+    local root=$cache/debian/user-trixie
     [ -x "$root/usr/bin/qemu-system-aarch64" ] || { skip "boards of QEMU 10" "$root/usr/bin/qemu-system-aarch64"; return; }
     qemu_of "$root" > "$work/qemu"
     chmod +x "$work/qemu"
-    export QEMU=$work/qemu
-    for name in neoverse-v1 neoverse-n2; do live "$name" --cpu "$name" --gic 3 each vectors; done
-    for name in "${newer[@]}"; do on_board "$name"; done
-    unset QEMU
+    QEMU=$work/qemu "$@"
 }
 
 # a program of another root with its own libraries
@@ -79,13 +84,23 @@ qemu_of() {
 }
 
 on_board() {
+    local took
+    can_boot || return
+    [[ $1 != raspi3* ]] || [ -e "$cache/trees/boot" ] || { skip "the board $1" "$cache/trees/boot"; return; }
     live "$1" --board "$1" each boot-core idle suspend-5
     live "$1-lives" --board "$1" --lives 3 each reboot
     live "$1-cut" --board "$1" --reset-at "guest: core 2 off" each
-    [ "$1" != sbsa-ref ] || live sbsa-sixteen --board sbsa-ref --cores "((4 4) (4 4))" each boot-core idle
+    [ "$1" != sbsa-ref ] || cores_of_sbsa
     lists_on_board "$1"
     lists_on_board "$1" tests/program/lists/beats.list tests/program/lists/pending.list
     board_faults "$1"
+}
+
+# 16 and 64 cores, which one processor emulates in turn: side by side they starve each other. Of 64 the second model takes
+# minutes
+cores_of_sbsa() {
+    live sbsa-sixteen --single --board sbsa-ref --cores "((4 4) (4 4))" each boot-core idle
+    quick=--quick live sbsa-sixty-four --single --board sbsa-ref --cores "((8 8 8 8) (8 8 8 8))" range-1-3 boot-core idle
 }
 
 # the faults of a board's own, of which Linux tells in one life or the next, or a list
@@ -116,7 +131,7 @@ played_on() {
 listed_fault() {
     say "Lists at EL3: the board $1, the fault $2"
     played_on "$1" "--fault $2" tests/program/lists/beats.list tests/program/lists/pending.list > "$work/out" 2>&1
-    compared 6 "$3" "$work/lists/pending.record" --limit "$patience" --profile "$work/profile"
+    compared 6 "$3" "$work/lists/beats.record" --limit "$patience" --profile "$work/profile" "$work/lists/pending.record"
 }
 
 # lists_on_board NAME [LIST..]: what the payload is answered there, which is to be as the judge has it

@@ -12,15 +12,27 @@ compared() {
     fi
 }
 
-# each stored record of Linux on the port, asked again, in the words of its machine where it names one
+# each stored record of Linux on the port, asked again, in the words of its machine where it names one; it has as many events
+# as the page says
 el3_records() {
-    local file name
+    local file name many
     has_python "records of hosts/el3" || return
+    sed -n '/^| Record | Events/,/^$/p' hosts/el3/README.md | awk -F '|' '{
+        split($3, many, ";")
+        for (at = split($2, names, ","); at; at--) {
+            gsub(/[ `]/, "", names[at]); gsub(/[ ,]/, "", many[at])
+            print names[at], many[at]
+        }
+    }' > "$work/rows"
     for file in hosts/el3/runs/*.record.xz; do
         has_xz "$file" || continue
         xz -dc "$file" > "$work/run.record"
         name=$(sed -n 's/^# machine //p' "$work/run.record")
-        compared 0 "safe after each of them" "$work/run.record" ${name:+--machine "hosts/el3/machines/$name"}
+        # of 64 cores the second model takes minutes
+        if [[ $file = *-sixty-four.* ]]; then compared 0 "are answered as by the proved program" "$work/run.record" --quick
+        else compared 0 "safe after each of them" "$work/run.record" ${name:+--machine "hosts/el3/machines/$name"}; fi
+        name=$(basename "$file" .record.xz) many=$(sed -n 's/.*: \([0-9]*\) events are answered.*/\1/p' "$work/out")
+        if grep -qx "$name $many" "$work/rows"; then pass; else fail "hosts/el3/README.md: $name has $many events"; fi
     done
 }
 
@@ -197,7 +209,8 @@ can_boot() {
     done
 }
 
-# what the page says that calls take is what is counted, within one in a hundred; a planted count is told
+# what the page says that calls take is what is counted, within one in a hundred, of those that stop in twenty, since a core
+# may wait for another; a planted count is told
 el3_cost() {
     can_boot || return
     if EL3_OUT=$work/el3-cost hosts/el3/cost > "$work/counted" 2> "$work/err"; then pass; else fail hosts/el3/cost; return; fi
@@ -210,7 +223,7 @@ el3_cost() {
 # costs_agree COUNTED: the same calls as in $work/lines, and nearly the same numbers
 costs_agree() {
     paste -d '|' "$work/lines" "$1" | awk -F '[:|]' '
-        NF != 6 || $2 != $5 || ($3 - $6) ^ 2 > ($6 / 100 + 1) ^ 2 { print; bad = 1 } END { exit bad || NR != 6 }' > "$work/out" ||
+        NF != 6 || $2 != $5 || ($3 - $6) ^ 2 > ($6 / (NR > 6 ? 20 : 100) + 1) ^ 2 { print; bad = 1 } END { exit bad || NR != 11 }' > "$work/out" ||
         { cat "$work/out"; false; }
 }
 
@@ -282,7 +295,7 @@ live() {
     fi
     took=$((SECONDS - begun))
     ! grep -q "did not\|LOST" "$work/out" || fail "hosts/el3/run $*: $(grep "did not\|LOST" "$work/out" | head -n 1)"
-    compared 0 "are answered as by the proved program" "$work/$name.record" --machine "$work/$name.record.machine"
+    compared 0 "are answered as by the proved program" "$work/$name.record" --machine "$work/$name.record.machine" ${quick-}
 }
 
 # a port that is right and slow, in which cores are inside a call as a storm ends: the judge finds nothing
@@ -310,15 +323,19 @@ live_shut() {
     fi
 }
 
-# frames are lost, and nothing is sent again: Linux misses cores. That of SYSTEM_OFF may be lost, too
+# frames are lost, and nothing is sent again, or after one ring of the timer nothing more: Linux misses cores. That of
+# SYSTEM_OFF may be lost, too
 live_unsent() {
-    say "Linux at EL3: the fault never-again"
-    EL3_OUT=$work/el3-unsent hosts/el3/run --seconds "$patience" --lose 5 --fault never-again --end-at "did not come" \
-        each each boot-core each > "$work/out" 2>&1
-    if grep -q "^guest: core [0-9] did not come" "$work/out"; then pass; else
-        fail "hosts/el3/run --lose 5 --fault never-again: each core comes"
-        tail -n 5 "$work/out"
-    fi
+    local name
+    for name in never-again one-try; do
+        say "Linux at EL3: the fault $name"
+        EL3_OUT=$work/el3-unsent hosts/el3/run --seconds "$patience" --lose 5 --fault $name --end-at "did not come" \
+            each each boot-core each > "$work/out" 2>&1
+        if grep -q "^guest: core [0-9] did not come" "$work/out"; then pass; else
+            fail "hosts/el3/run --lose 5 --fault $name: each core comes"
+            tail -n 5 "$work/out"
+        fi
+    done
 }
 
 # live_fault NAME TEXT: a port with this fault on the same machine, whose record shows it, whatever Linux did; it may

@@ -8,8 +8,8 @@ aligned=out/lib/aarch64/libpsci_ffi-strict-align.a
 # what an archive may want of its user; how many bytes of text and data it may have, where an access
 # that is not aligned is made of bytes, too; and a call of stack
 wants='memcpy|memmove|memset|rattle_alloc|rattle_realloc|rattle_dealloc'
-most_text=98304
-most_aligned_text=155648
+most_text=135168
+most_aligned_text=204800
 most_stack=8192
 
 has_cc() { command -v cc > /dev/null || { skip "$1" cc; false; }; }
@@ -159,12 +159,6 @@ c_stack() {
         ' add sp, sp, #2, lsl #12' ' ldp x29, x30, [sp], #16' ' ret'
     too_deep jump psci_call: ' b inner' inner: ' sub sp, sp, #3, lsl #12' ' add sp, sp, #3, lsl #12' \
         ' ret'
-    # one that calls itself stands there as often as a board has levels, where the sources say so
-    too_deep itself '"core::mem::drop::<#0a1b>":' "$page" ' bl "core::mem::drop::<#0a1b>"' "$back" ' ret' \
-        psci_call: ' sub sp, sp, #16' ' bl "core::mem::drop::<#0a1b>"' ' add sp, sp, #16' ' ret'
-    stack_of as_deep '"core::mem::drop::<#0a1b>":' ' sub sp, sp, #16' ' bl "core::mem::drop::<#0a1b>"' \
-        ' add sp, sp, #16' ' ret' psci_call: ' b "core::mem::drop::<#0a1b>"'
-    if [ "$stack" = 64 ]; then pass; else fail "tests/hosts/stack-need: '$stack' of four times 16"; fi
     unbounded itself psci_call: ' bl psci_call' ' ret'
     unbounded pointer psci_call: ' blr x1' ' ret'
     unbounded register psci_call: ' sub sp, sp, x1' ' ret'
@@ -177,25 +171,6 @@ c_stack() {
     unbounded nowhere psci_call: ' bl another' ' ret'
     unbounded address psci_call: ' adrp x0, inner' ' add x0, x0, :lo12:inner' ' br x0' inner: ' ret'
     unbounded table psci_call: ' br x0' inner: ' ret' ' .section .rodata.table, "a"' ' .xword inner'
-    c_recursion
-}
-
-# unlike_source FILE EDIT: where the sources say otherwise what calls itself, or which type holds itself, nothing is bounded
-unlike_source() {
-    rm -rf "$work/crates"
-    mkdir -p "$work/crates"
-    tar -C crates --exclude=out --exclude=proofs --exclude=specs --exclude=must-fail -cf - . | tar -C "$work/crates" -xf -
-    sed -i "$2" "$work/crates/$1"
-    if cmp -s "crates/$1" "$work/crates/$1" ||
-        tests/hosts/stack-need "$work/as_deep.o" "$work/crates" > "$work/out" 2> "$work/err" || [ ! -s "$work/err" ]; then
-        fail "tests/hosts/stack-need bounds what calls itself in spite of $1: $2"
-    else pass; fi
-}
-
-c_recursion() {
-    unlike_source psci_tree/src/domain.rt 's/pub children: Vec<Domain>,/pub children: Box<[Domain]>,/'
-    unlike_source psci_board/src/limits.rt 's/pub const MOST_LEVELS: usize = 3;/pub const MOST_LEVELS: usize = MOST;/'
-    unlike_source psci_state/src/cores.rt '$a pub struct Chain {\n    next: Option<Box<Chain>>,\n}'
 }
 
 # the archives for aarch64 are of general registers alone, the second one of aligned accesses
@@ -282,8 +257,8 @@ proving_lib() {
     done
     printf '%s\n' aarch64/{SHA256SUMS,libpsci_ffi-strict-align.a,libpsci_ffi.a} \
         x86_64/{SHA256SUMS,libpsci_ffi.a} > "$work/lines"
-    printf '%s\n' {aarch64,x86_64}/{psci,psci_ctl,psci_heap}.h {aarch64/psci-strict-align,{aarch64,x86_64}/psci}.pc \
-        >> "$work/lines"
+    printf '%s\n' {aarch64/psci-strict-align,{aarch64,x86_64}/psci}.pc >> "$work/lines"
+    headers | sed 'h; s|^|aarch64/|p; g; s|^|x86_64/|' >> "$work/lines"
     LC_ALL=C sort -o "$work/lines" "$work/lines"
     (cd "$fresh/out/lib" && find . -type f | sed 's|^\./||' | LC_ALL=C sort) > "$work/out"
     answers "the files of ./psci prove lib"
@@ -291,7 +266,7 @@ proving_lib() {
         sh "$file" -c "a b" '$c' && echo " $file"
     done) > "$work/out"
     cat > "$work/lines" << 'END'
--mllvm;-unroll-runtime=0;-mllvm;-inline-threshold=500;-c;a b;$c; x86_64/libpsci_ffi.a
+-mllvm;-unroll-runtime=0;-falign-loops=1;-mllvm;-inline-threshold=500;-c;a b;$c; x86_64/libpsci_ffi.a
 -mgeneral-regs-only;-mstrict-align;-mllvm;-inline-threshold=500;-mllvm;-disable-machine-sink;-c;a b;$c; aarch64/libpsci_ffi-strict-align.a
 -mgeneral-regs-only;-mllvm;-inline-threshold=500;-c;a b;$c; aarch64/libpsci_ffi.a
 END
@@ -360,7 +335,7 @@ c_calls() {
         fail "tests/hosts/programs/heaps.c"
         head -n 5 "$work/err"
     fi
-    for name in library controller; do
+    for name in library controller guest; do
         build_c "$name" "tests/hosts/programs/$name.c" || return
         tested "$work/$name"
     done
@@ -405,7 +380,7 @@ c_languages() {
     local header line fresh=$work/headers
     mkdir -p "$fresh"
     while read -r line; do
-        for header in psci.h psci_ctl.h psci_heap.h psci_beside.h; do
+        for header in psci.h psci_ctl.h psci_port.h psci_guest.h psci_record.h psci_heap.h psci_beside.h; do
             # shellcheck disable=SC2086
             if reads include "$header" $line; then pass; else
                 fail "$header by $line"
@@ -442,7 +417,20 @@ c_header() {
     unlike psci_ctl.h 's/CTL_OFF = 3/CTL_OFF = 4/; s/CTL_RESTART = 4/CTL_RESTART = 3/' \
         's/life, number, cause;/number, life, cause;/' 's/STANDBY = 1, PSCI_CTL_RETENTION = 2/STANDBY = 2, PSCI_CTL_RETENTION = 1/' \
         's/NOT_A_MESSAGE = 42/NOT_A_MESSAGE = 41/' 's/uint16_t core, uint32_t halted/uint32_t halted, uint16_t core/' \
-        's/domains\[4\]/domains[3]/' 's/NO_PLACE = PSCI_NO_FIRMWARE/NO_PLACE = PSCI_NO_CORE/'
+        's/domains\[4\]/domains[3]/' 's/NO_PLACE = PSCI_NO_FIRMWARE/NO_PLACE = PSCI_NO_CORE/' 's/SAVED_SUM = 52/SAVED_SUM = 53/' \
+        's/const uint64_t \*words/uint64_t *words/'
+    unlike psci_port.h 's/PORT_ARMED = 4/PORT_ARMED = 5/; s/PORT_WOKEN = 5/PORT_WOKEN = 4/' 's/OUT_OF_ORDER = 49/OUT_OF_ORDER = 48/' \
+        's/TAKES_UP = 0/TAKES_UP = 1/; s/PORT_TELLS = 1/PORT_TELLS = 0/' 's/SUSPENDED = 1/SUSPENDED = 2/; s/ENDING = 2/ENDING = 1/' \
+        's/PORT_LEAVES = 0/PORT_LEAVES = 3/; s/PORT_STANDS = 3/PORT_STANDS = 0/' 's/CONTROL_WRITE = 1/CONTROL_WRITE = 3/' \
+        's/CONTROL_OFF = 1/CONTROL_OFF = 3/' 's/CONTROL_WAITS = 1/CONTROL_WAITS = 2/' '/uint32_t used;/{h;d};/uint32_t told;/G' \
+        's/PORT_SENT = 1/PORT_SENT = 2/; s/PORT_AGAIN = 2/PORT_AGAIN = 1/' 's/port_sent, 12/port_sent, 16/' \
+        's/port_door, 20/port_door, 24/' 's/uint16_t core, uint32_t word/uint32_t word, uint16_t core/' \
+        's/psci_port_rises(struct psci_port_core \*, bool/psci_port_rises(struct psci_port_core *, uint32_t/'
+    unlike psci_guest.h 's/TURNED = 0/TURNED = 1/' 's/turn, 224/turn, 216/' 's/core, uint32_t life/core, uint16_t life/' \
+        's/struct psci_answer caller;/struct psci_ctl_start caller;/' '/psci_guest_wake/d' 's/^uint16_t psci_guest_nodes/uint32_t psci_guest_nodes/'
+    unlike psci_record.h 's/LINE = 256/LINE = 255/' 's/line, 260/line, 264/' 's/uint32_t number, uint32_t what,/uint32_t what, uint32_t number,/' \
+        's/uint64_t address, uint64_t x0,/uint64_t x0, uint64_t address,/' 's/int32_t code/uint32_t code/' '/bool is_mpidr;/{h;d};/uint64_t word;/G' \
+        's/const struct psci_port_orders \*, struct psci_answer/struct psci_answer *, const struct psci_port_orders/'
 }
 
 # the scripts that have no fault
@@ -500,6 +488,57 @@ unheeded() {
     done
 }
 
+# a drawn run by the calls of psci_port.h beside the plain ones; and each host that does one of these wrong is told
+c_sides() {
+    local edit flags=(-std=gnu11 -O2 -Wall -Wextra -Werror -Iinclude -Ihosts) seed
+    has_cc "the sides of a port in C" || return
+    cc "${flags[@]}" -o "$work/sides" tests/hosts/programs/sides.c hosts/pool.c "$archive" 2> "$work/err" ||
+        { fail tests/hosts/programs/sides.c; head -n 20 "$work/err"; return; }
+    for seed in 1 2 3; do
+        # each kind of step came
+        if timeout "$patience" "$work/sides" "$seed" 100000 > "$work/out" && ! grep -q ' 0$' "$work/out"; then pass; else
+            fail "tests/hosts/programs/sides.c by $seed"
+            tail -n 3 "$work/out"
+        fi
+    done
+    for edit in 's/x0, x1, x2, x3, &orders);$/x0 ^ WIDE, x1, x2, x3, \&orders);/' 's/hold(psci_control_stands(&control, core, it->word)/hold(psci_control_stands(\&control, core, it->word + 1)/' \
+        's/cores\[core\].door.start = due.start;/;/' 's/^        begin_life();$//' 's/look(&it->side, &it->door, it->wakes)/look(\&it->side, \&it->door, false)/' \
+        's/psci_control_waited(&control, core,/psci_control_waited(\&control, core ^ 1,/' 's/psci_port_rises(side, started)/psci_port_rises(side, false)/' \
+        's/psci_control_reset(&control, core, &orders);/psci_control_wake(\&control, core, \&orders);/' \
+        's/number, &last\[number\], &message);/number, \&last[0], \&message);/' \
+        's/psci_control_starts(&control, core) ==/psci_control_starts(\&control, 0) ==/'; do
+        sed "$edit" tests/hosts/programs/sides.c > "$work/unheeded.c"
+        if cmp -s tests/hosts/programs/sides.c "$work/unheeded.c" ||
+            ! cc "${flags[@]}" -w -o "$work/unheeded" "$work/unheeded.c" hosts/pool.c "$archive" 2> "$work/err"; then
+            fail "tests/hosts/programs/sides.c has no such line: $edit"
+        elif timeout "$patience" "$work/unheeded" 1 100000 > "$work/out"; then
+            fail "tests/hosts/programs/sides.c is not seen to be wrong by $edit"
+        else
+            pass
+        fi
+    done
+}
+
+# the line of each event of a record; and each line that C gives otherwise is told
+c_lines() {
+    local edit
+    has_cc "the lines of a record" || return
+    build_c lines tests/hosts/programs/lines.c || return
+    tested "$work/lines"
+    for edit in 's/{.is_mpidr = true, .word = 0x300}/{.word = 0x300}/' 's/&own, 0xc4000003, 0x300,/\&own, 0xc4000003, 0x301,/' \
+        's/what = PSCI_STOP,/what = PSCI_RESUME,/' 's/0x40201000, 7, 0x3c9/7, 0x40201000, 0x3c9/' 's/start, PSCI_CTL_START, &ack/start, PSCI_CTL_START, \&none/' \
+        's/ack.bytes, PSCI_OLD/ack.bytes, PSCI_USED/' 's/PSCI_CTL_START, 2);/PSCI_CTL_START, 1);/' 's/{.next = PSCI_PORT_LEAVES, .x0 = ~1ull/{.next = PSCI_PORT_LEAVES, .x0 = 1ull/'; do
+        sed "$edit" tests/hosts/programs/lines.c > "$work/otherwise.c"
+        if cmp -s tests/hosts/programs/lines.c "$work/otherwise.c" || ! build_c otherwise "$work/otherwise.c"; then
+            fail "tests/hosts/programs/lines.c has no such line: $edit"
+        elif "$work/otherwise" > "$work/out"; then
+            fail "tests/hosts/programs/lines.c is not seen to be wrong by $edit"
+        else
+            pass
+        fi
+    done
+}
+
 # the rules of a port, each tried and each left out
 c_rules() {
     local name
@@ -507,6 +546,8 @@ c_rules() {
         fail "hosts/tried.txt"
         cat "$work/out"
     fi
+    sed 's/no-gate.patch/no-fence.patch/' hosts/tried.txt > "$work/tried"
+    if tests/hosts/tried "$work/tried" > "$work/out"; then fail "tests/hosts/tried lets through a fault that is not there"; else pass; fi
     has_cc "the rules of a port" || return
     for name in rules resets link lock power; do
         build_c "$name" "hosts/$name.c" hosts/machine.c || return
@@ -548,7 +589,16 @@ c_hosts() {
             fail "the readers on $file, where the firmware is made anew for each life"
         fi
         answered "$file" "$work/ctl_loop" "$file" "${file%.psci}.out"
+        answered "$file" "$work/ctl_loop" "$file" "${file%.psci}.out" saved
     done
+    # a power controller that is made anew, and not loaded, is told from the one that was there
+    sed 's/psci_ctl_load(&place, words, many) != 0/false/' hosts/ctl_loop.c > "$work/unloaded.c"
+    file=examples/start-limit.psci
+    if ! cmp -s hosts/ctl_loop.c "$work/unloaded.c" && build_c unloaded "$work/unloaded.c" &&
+        ! "$work/unloaded" "$file" "${file%.psci}.out" saved 2> "$work/err" | cmp -s "${file%.psci}.out" -
+    then pass; else
+        fail "hosts/ctl_loop.c does not see a power controller that is not loaded"
+    fi
     if "$work/size" "1 exec 0x0-0x8 boot 0x0 starts 1 lives 1" "((1 1) (16))$rest" "(16 16)$rest" \
         > "$work/out" 2>&1
     then pass; else

@@ -12,6 +12,32 @@ kvm_records() {
     done
 }
 
+# built_turns FOLDER: its cores.c and record.c with vCPUs that are drawn, in place of KVM
+built_turns() {
+    cc -std=gnu11 -O2 -pthread -Wall -Wextra -Werror -Iinclude -Ihosts -I"$1" -o "$work/turns" \
+        tests/hosts/programs/turns.c "$1"/{cores,record}.c hosts/pool.c "$archive" > "$work/err" 2>&1
+}
+
+# what drawn vCPUs do in several lives is recorded, and asked again; two planted faults are seen
+kvm_turns() {
+    local seed fault copy=$work/kvm
+    has_cc "turns of a guest" && has_python "turns of a guest" || return
+    built_turns hosts/kvm || { fail "tests/hosts/programs/turns.c"; head -n 20 "$work/err"; return; }
+    for seed in 1 2; do
+        "$work/turns" "$seed" 3000 "$work/run.record" \
+            "(1 3) exec 0x40000000-0x50000000 boot 0x40200000 starts 6 lives 40" || fail "turns $seed"
+        compared 0 "safe after each of them" "$work/run.record"
+    done
+    if grep -q "^enter 0x0 3 " "$work/run.record"; then pass; else fail "turns: too few lives"; fi
+    for fault in runs-on end-unseen; do
+        rm -rf "$copy"
+        cp -r hosts/kvm "$copy"
+        patch -s -d "$copy" -p1 < "hosts/kvm/faults/$fault.patch" && built_turns "$copy" || fail "turns: $fault"
+        if "$work/turns" 1 3000 "$work/run.record" 2> "$work/err" || ! grep -q "a call was refused: 19" "$work/err"
+        then fail "turns: $fault is not seen"; else pass; fi
+    done
+}
+
 # each fault still fits the monitor's sources, and the list says who tells it, as the page does; the list has no other.
 # What any monitor links is as small as the page says
 kvm_faults() {
@@ -33,10 +59,10 @@ kvm_faults() {
     then pass; else fail "the lines of hosts/kvm"; fi
 }
 
-# guest_of WORD..: what hosts/kvm/run ends with
+# guest_of WORD..: what hosts/kvm/run ends with. A guest that is to move has
 guest_of() {
     say "KVM: $*"
-    hosts/kvm/run "$@" > "$work/out" 2>&1
+    hosts/kvm/run "$@" > "$work/out" 2>&1 && ! grep "moved 0 times" "$work/out"
 }
 
 # lists_agree PROFILE OPTION.. -- LIST..: these lists, played, are judged, and their ports are compared
@@ -45,11 +71,12 @@ lists_agree() {
     shift
     while [ "$1" != -- ]; do options+=("$1"); shift; done
     shift
+    rm -rf "$work/lists"
     guest_of --seconds "$patience" "${options[@]}" --lists "$work/lists" "$@" ||
         fail "hosts/kvm/run ${options[*]} --lists: $(tail -n 1 "$work/out")"
-    judged_as 0 "$# records: $# agrees" --profile "$profile" "$work"/lists/*.record
+    judged_as 0 "$# record$([ $# = 1 ] || echo s): $# agrees" --profile "$profile" "$work"/lists/*.record
     for list in "$@"; do
-        compared 0 "are answered as by the proved program" "$work/lists/$list.port"
+        compared 0 "are answered as by the proved program" "$work/lists/$(basename "$list" .list).port"
     done
 }
 
@@ -67,6 +94,15 @@ kvm_kvmtool() {
     [ -e "$cache/kvmtool/source/Makefile" ] || { skip "guests of kvmtool" "source of it"; return; }
     lists_agree ours-on-kvmtool --kvmtool -- lives off on-race standby system-suspend
     linux_agrees --kvmtool each
+}
+
+# lists and Linux, which go on in another monitor in mid-run: a core is off, the system is suspended, or all are on
+kvm_moves() {
+    can_boot && [ -e "$cache/trixie/packages/bin/busybox" ] || { skip "guests of KVM that move" "$cache/trixie"; return; }
+    lists_agree ours-on-kvm --move-after 40 -- off storm-1
+    lists_agree ours-on-kvm --move-call 0x84000000 -- tests/program/lists/moves.list
+    linux_agrees --move-at "guest: up" --move-call 0xc400000e each idle suspend-5
+    linux_agrees --move-call 0x84000002 each
 }
 
 # lists that are judged, whose ports are compared; Linux; and one of the planted faults, another with each commit

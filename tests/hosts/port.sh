@@ -39,15 +39,17 @@ port_heaps() {
 
 # as_threads KIND MACHINE SEED: the port, in which FAULT may be planted, as a drawn run, and what is found of it is in
 # $work/out. `threads` are watched by ThreadSanitizer, in two lives and one more after a press of the reset button; a
-# `record` is held to the program; in one that is `lossy` each second frame is lost. Some 5 seconds each
+# `record` is held to the program; in one that is `lossy` each second frame is lost. `monitors` and `monitors-record` have
+# the power controller in the monitors. Some 5 seconds each
 as_threads() {
-    local status=0 compared=0 flags=(-DRECORD) calls=(400 2 0)
-    [ "$1" != threads ] || flags=("${race[@]}") calls=(500 2 1)
+    local status=0 compared=0 kind=threads flags=(-DRECORD) calls=(400 2 0)
+    [[ $1 != monitors* ]] || kind=monitors
+    [ "$1" != $kind ] || flags=("${race[@]}") calls=(500 2 1)
     [ "$1" != lossy ] || { flags+=(-DLOSE=2) calls=(400 3 0); }
-    TABLE=hosts/el3/machines/$2.h port_built "$work/port" threads "${flags[@]}" || return
+    TABLE=hosts/el3/machines/$2.h port_built "$work/port" $kind "${flags[@]}" || return
     TSAN_OPTIONS=exitcode=66 timeout "$patience" setarch -R "$work/port" "$3" "${calls[@]}" "$work/port.told" \
         > "$work/out" 2>&1 || status=$?
-    [ "$1" != threads ] || return $status
+    [ "$1" != $kind ] || return $status
     grep -v '^#' "$work/port.told" > "$work/port.record"
     ./psci compare --machine "hosts/el3/machines/$2.machine" "$work/port.record" >> "$work/out" 2>&1 || compared=$?
     # core 0 ends a life once it has made its calls, whichever core is on the way to its entry then
@@ -61,7 +63,7 @@ port_threads() {
     local way
     has_cc "hosts/el3 as threads" || return
     for way in "threads four 1" "threads four 2" "threads sixteen 3" "record four 4" "lossy four 5" \
-        "record affinity-1 6"; do
+        "record affinity-1 6" "monitors four 7" "monitors sixteen 8" "monitors-record four 9"; do
         # shellcheck disable=SC2086
         if as_threads $way; then pass; else
             fail "hosts/el3 as threads: $way"
@@ -95,46 +97,52 @@ port_values() {
     done
 }
 
-# modelled FLAGS SECONDS: the port as processes, by spin, for so long at most; what it found is in $work/out
+# modelled FLAGS [SECONDS]: the port as processes, by spin, to its end or for so long; what it found is in $work/out
 modelled() {
     rm -rf "$work/model" && mkdir "$work/model"
     # shellcheck disable=SC2086
-    (cd "$work/model" && spin -a $1 "$OLDPWD/$checks/port.pml" && cc -O1 -w -DSAFETY -DCOLLAPSE -DMEMLIM=2000 -o pan pan.c &&
-        { timeout -s INT "$2" ./pan -m100000 -n || true; }) > "$work/out" 2>&1
+    (cd "$work/model" && spin -a $1 "$OLDPWD/$checks/port.pml" && cc -O2 -w -DSAFETY -DCOLLAPSE -DMEMLIM=2000 -o pan pan.c &&
+        { timeout -s INT "${2:-$patience}" ./pan -m100000 -w22 -n || true; }) > "$work/out" 2>&1
 }
 
-# of what spin comes to nothing is wrong, and each fault is found
+# was_searched: to its end, and nothing is wrong
+was_searched() { grep -q "errors: 0" "$work/out" && ! grep -q "not completed\|too small" "$work/out"; }
+
+# in each order nothing is wrong, by two calls in a start, and by three starts of which frames may be lost; each fault is
+# found, and a search that was broken off is none
 port_model() {
     local flags
     command -v spin > /dev/null || { skip "a model of hosts/el3" spin; return; }
     has_cc "a model of hosts/el3" || return
-    for flags in "" -DLOSE; do
-        if modelled "$flags" 20 && grep -q "errors: 0" "$work/out"; then pass; else
+    for flags in "" "-DMOST=3 -DCALLS=1 -DLOSE"; do
+        if modelled "$flags" && was_searched; then pass; else
             fail "$checks/port.pml $flags"
             head -n 5 "$work/out"
         fi
     done
-    for flags in -DNO_WAIT -DSTANDS_EARLY -DDOOR_FIRST -DBELL_LOST -DOLD_ACK "-DNO_TIMER -DLOSE"; do
-        if modelled "$flags" "$patience" && grep -q "assertion violated" "$work/out"; then pass; else
-            fail "$checks/port.pml: $flags is not told"
+    for flags in -DNO_WAIT -DSTANDS_EARLY -DLATE_LOCK -DDOOR_FIRST -DBELL_LOST -DOLD_ACK "-DNO_TIMER -DLOSE"; do
+        if modelled "$flags" 120 && grep -q "assertion violated" "$work/out"; then pass; else
+            fail "$checks/port.pml: $flags is not told in two minutes"
             head -n 5 "$work/out"
         fi
     done
+    if modelled -DMOST=9 1 && ! was_searched; then pass; else fail "$checks/port.pml: a search that was broken off passes"; fi
 }
 
-# seen_by CHECK MACHINE: whether this check lets the port with the planted FAULT through, of threads by three seeds; what
-# it says is in $work/out
+# seen_by CHECK MACHINE: whether this check lets the port with the planted FAULT through, of threads by eight seeds, of
+# which a busy processor shows a race in some; what it says is in $work/out
 seen_by() {
+    local seed
     case $1 in
         heaps) ARCHIVE=$archive "$checks/heaps" > "$work/out" 2>&1 ;;
         door | gate) port_built "$work/$1" "$1" && "$work/$1" > "$work/out" 2>&1 ;;
         eva) "$checks/eva" main_call > "$work/out" 2>&1 ;;
-        *) as_threads "$1" "$2" 1 && as_threads "$1" "$2" 2 && as_threads "$1" "$2" 3 ;;
+        *) for seed in 1 2 3 4 5 6 7 8; do as_threads "$1" "$2" "$seed" || return; done ;;
     esac
 }
 
 # each planted fault is seen by the check that its line names, and says what the line has; each stands in a line, and in
-# the tables of the page. Those of `lists`, `linux` and boards are tried where QEMU is, those of `silicon` by el3_silicon
+# the tables of the page. Those of lists, `linux` and boards are tried where QEMU is, those of `silicon` by el3_silicon
 port_faults() {
     local name check machine text known=" "
     has_cc "faults of hosts/el3" && has_python "faults of hosts/el3" || return
@@ -143,7 +151,7 @@ port_faults() {
         if [ -f "hosts/el3/faults/$name.patch" ] && grep -qF "\`$name\`" hosts/el3/README.md; then pass; else
             fail "tests/hosts/port-faults.txt: $name is no fault, or hosts/el3/README.md does not have it"
         fi
-        [[ " heaps door gate threads record lossy eva " == *" $check "* ]] || continue
+        [[ " heaps door gate threads monitors record lossy eva " == *" $check "* ]] || continue
         [ "$check" != eva ] || command -v frama-c > /dev/null || { skip "the fault $name" frama-c; continue; }
         export FAULT=$name
         if seen_by "$check" "$machine"; then fail "$name is not seen by $check"
@@ -175,9 +183,10 @@ listed() {
     return $status
 }
 
-# on the emulated machine: the port as it is, and the faults of which its own C says nothing
+# on the emulated machine: the port as it is, and the faults of which its own C says nothing; those of `lists` by the list
+# `port`, others by the list of their name
 port_lists() {
-    local tool name check _ text begun took most
+    local tool name check list _ text begun took most
     for tool in qemu-system-aarch64 aarch64-linux-gnu-gcc dtc make; do
         command -v "$tool" > /dev/null || { skip "lists at EL3" "$tool"; return; }
     done
@@ -192,13 +201,17 @@ port_lists() {
     done
     took=$((SECONDS - begun))
     while IFS='|' read -r name check _ text; do
-        [ "$check" = lists ] || continue
+        case $check in
+            lists) list=port ;;
+            beats | pending) list=$check ;;
+            *) continue ;;
+        esac
         say "lists at EL3: the fault $name"
         # a hang gets more time than the port took; an exception ends a run
         if [ "$text" = "did not end" ]; then most=$((30 + 2 * took)); else most=$patience; fi
-        if listed "$name" "$most"; then fail "$name is not seen by lists"
+        if listed "$name" "$most" $list; then fail "$name is not seen by the list $list"
         elif grep -q -- "$text" "$work/out"; then pass; else
-            fail "$name is seen by lists, which do not say '$text'"
+            fail "$name is seen by the list $list, which does not say '$text'"
             head -n 5 "$work/out"
         fi
     done < tests/hosts/port-faults.txt

@@ -20,6 +20,9 @@ answers() {
     fi
 }
 
+# headers: what the C library's headers are called, each of include/ but the one that goes with hosts/beside/beside.c
+headers() { (cd "$top/include" && printf '%s\n' *.h | grep -vx psci_beside.h); }
+
 # run WORD..: the program with these words; its output, error text and
 # status are kept
 run() {

@@ -23,6 +23,8 @@ START = r"(started \d+|ignored|refused \d+)"
 LINES = {
     "call": rf"call {CORE} {HEX} {HEX} {HEX} {HEX} -> {ANSWER}",
     "poll": rf"poll {CORE} {HEX} {HEX} {HEX} -> (?:return (-?\d+)|(refused \d+))",
+    "leaves": rf"leaves {CORE} {HEX}",
+    "begins": rf"begins {CORE} {HEX} {HEX}(?: {HEX} {HEX})?",
     "enter": rf"enter {CORE} {DEC} {DEC} {DEC} -> {ANSWER}",
     "take": rf"take {FRAME} -> (used|old|refused \d+)",
     "deliver": rf"deliver {FRAME} -> (?:{FRAME}|(ignored|refused \d+))",
@@ -31,6 +33,9 @@ LINES = {
     "reset": rf"reset {CORE} -> {START}",
 }
 OF_FRAMES = ("take", "deliver")
+# of SPSR: that it is of AArch32, its mode, and what masks interrupts; of SCTLR: the MMU, the data cache
+AARCH32, MODE, MASKS_32, MASKS_64 = 0x10, 0x1F, 0x1C0, 0x3C0
+MMU, DATA_CACHE = 1, 4
 PATTERNS = {word: re.compile(pattern) for word, pattern in LINES.items()}
 
 # where it stands in the record, its line of the script, and what the port said
@@ -63,6 +68,11 @@ def said_of(frame, index):
     return said + " parts" * bool(parts) + "".join(parts)
 
 
+def register_of(word, code):
+    """What a code makes of x0, by the function word of the call."""
+    return code % 2**(64 if word >> 30 & 1 else 32)
+
+
 def affinities(tree):
     """The affinity words of a board's cores, in their order."""
     members = re.findall(r"\([^()]*\)|\d+", tree[1:-1] if tree[:1] == "(" else tree)
@@ -91,6 +101,10 @@ class Record:
         self.fresh = set()
         # of each core the start in whose stop it stands, if the record tells of that
         self.stops, self.tells_stops = {}, False
+        # of each core the lines with one of which it has to leave the monitor, by what it was answered last
+        self.leaving = {}
+        # the mode in which the first core began
+        self.mode = None
         for at, line in enumerate(lines, 1):
             line = line.rstrip("\r\n")
             if line and line[0] != "#" and not self.read(at, line):
@@ -188,12 +202,58 @@ class Record:
     def call(self, core, x0, x1, x2, x3, answer, frame):
         self.fresh.clear()
         word = int(x0, 16) % 2**32
+        self.answered(core, word, answer)
         if self.translator:
             text = self.translator.call(f"call {core} {x0} {x1} {x2} {x3}")
             return text, self.heeded(text, self.outcome(answer, frame))
         if self.words is not None and word in TARGETS:
             x1 = hex(self.named(word, x1, int(x2, 16) % 2**32 if word not in CPU_ON else 0))
         return f"call {core} {x0} {x1} {x2} {x3}", self.outcome(answer, frame)
+
+    def answered(self, core, word, answer, cause=None):
+        """Keeps how the core leaves that was answered so: a boot core begins with an x0 of the port's own."""
+        said, *values = answer.split(" ")
+        if said == "return":
+            self.leaving[core] = "leaves", register_of(word, int(values[0]))
+        elif said == "resume":
+            self.leaving[core] = "leaves", 0
+        elif said == "enter":
+            address, context = (int(it, 16) for it in values)
+            self.leaving[core] = "begins", address, None if cause == BOOT else context
+        else:
+            self.leaving.pop(core, None)
+
+    def left(self, core, *how):
+        """The core left so: no event, but it has to be as it was answered, and once for each answer."""
+        wanted = self.leaving.pop(core, None)
+        if wanted is None:
+            raise Impossible("no answer of before lets it go")
+        if wanted[0] != how[0]:
+            raise Impossible(f"it was answered that it {wanted[0]}")
+        for name, ours, theirs in zip(("address", "x0")[3 - len(how):], how[1:], wanted[1:]):
+            if theirs not in (None, ours):
+                raise Impossible(f"it was answered {name} {theirs:#x}")
+        return None, None
+
+    def leaves(self, core, x0):
+        return self.left(core, "leaves", int(x0, 16))
+
+    def begins(self, core, address, x0, spsr, sctlr):
+        self.left(core, "begins", int(address, 16), int(x0, 16))
+        return self.in_state(int(spsr, 16), int(sctlr, 16)) if spsr else (None, None)
+
+    def in_state(self, spsr, sctlr):
+        """The state at an entry: the boot core's mode, all interrupts masked, and neither MMU nor data cache on."""
+        masks = MASKS_32 if spsr & AARCH32 else MASKS_64
+        if self.mode is None:
+            self.mode = spsr & MODE
+        if spsr & MODE != self.mode:
+            raise Impossible(f"it begins in mode {spsr & MODE:#x}, and the first core in mode {self.mode:#x}")
+        if spsr & masks != masks:
+            raise Impossible(f"an interrupt is not masked: SPSR {spsr:#x}")
+        if sctlr & (MMU | DATA_CACHE):
+            raise Impossible(f"its MMU or its data cache is on: SCTLR {sctlr:#x}")
+        return None, None
 
     def heeded(self, text, said):
         """What was said, of which the machine's words keep what they depend on."""
@@ -207,6 +267,7 @@ class Record:
             raise Impossible("a poll is AFFINITY_INFO of a core, with level 0")
         if refused:
             raise Impossible(f"it was {refused}: there is no firmware to poll")
+        self.answered(core, word, f"return {code}")
         target = self.core_of(int(x1, 16) % 2**(64 if word >> 30 & 1 else 32))
         if target is not None:
             text = f"poll {core} {x0} {x1} {x2}"
@@ -222,6 +283,7 @@ class Record:
                              "its last one is start {1} of life {0}, cause {2}".format(*found))
         self.entered.add((int(core), *by))
         self.fresh.clear()
+        self.answered(core, 0, answer, int(cause))
         return f"enter {core}", self.outcome(answer, frame)
 
     def take(self, frame, said):

@@ -29,8 +29,9 @@ RULES = {
                   "standing free", "down", "started"),
     "Writes": Rule("((p.row c).opened == p.values.starts c) ≡ false", "started", "started", "written"),
     "Opens": Rule("(p.row c).door ≡ last_start p.values c", "written", "written", "opened"),
-    "TakesUp": Rule("(looks (stage_at p c) ≡ true) × ((p.row c).held ≡ false) × "
-                    "(((p.row c).opened == (p.row c).used) ≡ false)", "opened standing", "opened standing", "entering"),
+    "TakesUp": Rule("(is_started (stage_at p c) ≡ true) × ((p.row c).held ≡ false) × "
+                    "(((p.row c).opened == (p.row c).used) ≡ false) × LacksLock p c",
+                    "opened standing free", "opened standing", "entering"),
 }
 FIRST = {"free", "idle", "normal"}
 

@@ -6,6 +6,7 @@
  * A line of the first two is INSTRUCTIONS | GIVEN | FUNCTION | ROW | BOARD | MACHINE | LIST | PROBE; at their end stands
  * what each function took of the stack at most, as by the third. */
 #include "probes.h"
+#include "psci_port.h"
 
 #include <stdio.h>
 #include <stdlib.h>
@@ -278,6 +279,143 @@ static const char *text_of(void) {
         heap_refuse(0);                                                                                               \
     } while (0)
 
+/* What a call takes that asks for no memory, or for some that is there. */
+#define NOTED(name, call)                                                                                             \
+    do {                                                                                                              \
+        STEP(call);                                                                                                   \
+        note(name, steps.stack);                                                                                      \
+    } while (0)
+
+/* The turns of a guest: all cores are started, suspended, woken, and reset; the last one's domains go down with it. */
+static void guest_stacks(const uint8_t *bytes, size_t length) {
+    static struct psci_guest_place guest;
+    static struct psci_guest_turn turn;
+    static uint64_t saved[24 * 256];
+    NOTED("psci_guest_open_machine", psci_guest_open_machine(&guest, &board, &words, words.mpidrs[cores - 1], &turn));
+    NOTED("psci_guest_open", psci_guest_open(&guest, bytes, length, &turn));
+    NOTED("psci_guest_open_board", psci_guest_open_board(&guest, &board, &turn));
+    for (unsigned core = 1; core < cores; core++)
+        NOTED("psci_guest_call", psci_guest_call(&guest, 0, 1, 0xc4000003, affinity_of(core), 0x40000000, 0, &turn));
+    for (unsigned core = cores; core-- > 0;)
+        NOTED("psci_guest_call", psci_guest_call(&guest, (uint16_t)core, 1, 0xc4000001, state_word(height, 3), 0x40000000,
+                                                 0, &turn));
+    for (unsigned core = 0; core < cores; core++)
+        NOTED("psci_guest_wake", psci_guest_wake(&guest, (uint16_t)core, &turn));
+    for (unsigned core = 0; core < cores; core++)
+        NOTED("psci_guest_reset", psci_guest_reset(&guest, (uint16_t)core, &turn));
+    for (unsigned core = 0; core < cores; core++)
+        NOTED("psci_guest_wake", psci_guest_wake(&guest, (uint16_t)core, &turn));
+    NOTED("psci_guest_status", psci_guest_status(&guest, height, 0));
+    NOTED("psci_guest_hw", psci_guest_hw(&guest, height, 0));
+    NOTED("psci_guest_cores", psci_guest_cores(&guest));
+    NOTED("psci_guest_height", psci_guest_height(&guest));
+    NOTED("psci_guest_nodes", psci_guest_nodes(&guest, height));
+    NOTED("psci_guest_children", psci_guest_children(&guest, height, 0));
+    NOTED("psci_guest_save_size", psci_guest_save_size(&guest));
+    NOTED("psci_guest_save", psci_guest_save(&guest, saved, psci_guest_save_size(&guest)));
+    NOTED("psci_guest_load", psci_guest_load(&guest, saved, psci_guest_save_size(&guest)));
+    NOTED("psci_guest_close", psci_guest_close(&guest));
+}
+
+/* A line of each kind, with the longest frame and numbers, and with nothing. */
+static void record_stacks(uint64_t most) {
+    static struct psci_record_line line;
+    struct psci_record_core core = {.is_mpidr = most, .word = most & 0xff00ffffff};
+    struct psci_ctl_start start = {.life = (uint32_t)most, .number = (uint32_t)most, .cause = PSCI_CAUSE_WAKE};
+    struct psci_answer answer = {.what = most ? PSCI_ENTER : PSCI_STOP, .address = most, .context = most};
+    struct psci_port_orders given = {.next = PSCI_PORT_ENTERS, .x0 = most, .address = most};
+    answer.message.some = most;
+    memset(answer.message.bytes, (int)(most & 0xff), PSCI_FRAME_LEN);
+    given.message = answer.message;
+    NOTED("psci_record_call", psci_record_call(&line, &core, most, most, most, most, &answer));
+    NOTED("psci_record_poll", psci_record_poll(&line, &core, most, most, most, (int32_t)most));
+    NOTED("psci_record_enter", psci_record_enter(&line, &core, &start, &answer));
+    NOTED("psci_record_leaves", psci_record_leaves(&line, &core, most));
+    NOTED("psci_record_begins", psci_record_begins(&line, &core, most, most, most, most));
+    NOTED("psci_record_stands", psci_record_stands(&line, &core, (uint32_t)most));
+    NOTED("psci_record_answer", psci_record_answer(&given, &answer));
+    NOTED("psci_record_take", psci_record_take(&line, given.message.bytes, (uint32_t)most));
+    NOTED("psci_record_deliver", psci_record_deliver(&line, given.message.bytes, PSCI_CTL_NOTHING, &given.message));
+    NOTED("psci_record_wake", psci_record_wake(&line, &core, (uint32_t)most, PSCI_CTL_NOTHING, (uint32_t)most));
+    NOTED("psci_record_reset", psci_record_reset(&line, &core, PSCI_CTL_NOTHING, (uint32_t)most));
+}
+
+/* The sides of a port, as in the turns of a guest. */
+static struct psci_control_place control;
+static struct psci_port_core sides[PSCI_MOST_CORES];
+static struct psci_port_door doors[PSCI_MOST_CORES];
+static struct psci_port_orders orders;
+static struct psci_port_sent last[PSCI_MOST_CORES + 1];
+static struct psci_control_orders done;
+
+/* A core's door is written and opened, and it enters. */
+static void port_enters(unsigned core) {
+    struct psci_port_door step;
+    uint32_t due;
+    for (unsigned turn = 0; turn < 2; turn++) {
+        NOTED("psci_control_door", due = psci_control_door(&control, (uint16_t)core, &step));
+        if (due == PSCI_CONTROL_WRITE)
+            doors[core].start = step.start;
+        else if (due == PSCI_CONTROL_OPEN)
+            doors[core].opened = step.opened;
+    }
+    NOTED("psci_port_look", psci_port_look(&sides[core], &doors[core], false));
+    NOTED("psci_port_enter", psci_port_enter(&firmware, &sides[core], &orders));
+}
+
+static void port_calls(unsigned core, uint64_t x0, uint64_t x1) {
+    NOTED("psci_port_call", psci_port_call(&firmware, &sides[core], x0, x1, 0x40000000, 0, &orders));
+    NOTED("psci_control_message", psci_control_message(&control, orders.message.bytes, PSCI_FRAME_LEN, &done));
+}
+
+static void port_stacks(const uint8_t *bytes, size_t length) {
+    psci_open(&firmware, bytes, length);
+    NOTED("psci_control_open", psci_control_open(&control, bytes, length));
+    NOTED("psci_control_open_board", psci_control_open_board(&control, &board));
+    for (unsigned core = 0; core < cores; core++) {
+        NOTED("psci_port_new", psci_port_new(&sides[core], (uint16_t)core));
+        doors[core] = (struct psci_port_door){.opened = 0};
+    }
+    port_enters(0);
+    for (unsigned core = 1; core < cores; core++) {
+        port_calls(0, 0xc4000003, affinity_of(core));
+        port_enters(core);
+    }
+    for (unsigned core = cores; core-- > 0;) {
+        port_calls(core, 0xc4000001, state_word(height, 3));
+        NOTED("psci_port_stands", psci_port_stands(&sides[core]));
+        NOTED("psci_control_stands", psci_control_stands(&control, (uint16_t)core, sides[core].used));
+        NOTED("psci_control_waited", psci_control_waited(&control, (uint16_t)core, &done));
+    }
+    for (unsigned core = 0; core < cores; core++) {
+        NOTED("psci_control_wake", psci_control_wake(&control, (uint16_t)core, &done));
+        port_enters(core);
+    }
+    port_calls(0, 0xc4000001, state_word(height, 3));
+    for (unsigned number = 0; number <= cores; number++)
+        for (unsigned turn = 0; turn < 2; turn++) {
+            struct psci_frame message;
+            NOTED("psci_port_again", psci_port_again(&firmware, (uint16_t)number, &last[number], &message));
+        }
+    NOTED("psci_port_arms", psci_port_arms(&sides[0]));
+    NOTED("psci_port_sleeps", psci_port_sleeps(&sides[0]));
+    NOTED("psci_port_rouses", psci_port_rouses(&sides[0]));
+    NOTED("psci_port_rises", psci_port_rises(&sides[0], true));
+    NOTED("psci_port_turns", psci_port_turns(&sides[0]));
+    for (unsigned core = 0; core < cores; core++) {
+        NOTED("psci_control_reset", psci_control_reset(&control, (uint16_t)core, &done));
+        NOTED("psci_port_comes_back", psci_port_comes_back(&sides[core]));
+        port_enters(core);
+    }
+    NOTED("psci_control_rings", psci_control_rings(&control));
+    struct psci_ctl_start start;
+    NOTED("psci_control_life", psci_control_life(&control));
+    NOTED("psci_control_starts", psci_control_starts(&control, 0));
+    NOTED("psci_control_started", psci_control_started(&control, 0, &start));
+    NOTED("psci_control_depth", psci_control_depth(&control, height, 0));
+    NOTED("psci_control_close", psci_control_close(&control));
+}
+
 static void stacks(const char *name) {
     if (!world_open(name, "fields") || !world_play("on 0-0"))
         fail("no board", name);
@@ -292,9 +430,17 @@ static void stacks(const char *name) {
     REFUSED("psci_open_poller", psci_open_poller(&firmware, &poller));
     REFUSED("psci_ctl_open", psci_ctl_open(&controller, bytes, length));
     REFUSED("psci_ctl_open_board", psci_ctl_open_board(&controller, &board));
+    static uint64_t saved[3 + 5 * 256];
+    NOTED("psci_ctl_save_size", psci_ctl_save_size(&controller));
+    NOTED("psci_ctl_save", psci_ctl_save(&controller, saved, psci_ctl_save_size(&controller)));
+    NOTED("psci_ctl_load", psci_ctl_load(&controller, saved, psci_ctl_save_size(&controller)));
     REFUSED("psci_close", psci_close(&firmware));
     REFUSED("psci_close_poller", psci_close_poller(&poller));
     REFUSED("psci_ctl_close", psci_ctl_close(&controller));
+    guest_stacks(bytes, length);
+    record_stacks(~0ull);
+    record_stacks(0);
+    port_stacks(bytes, length);
 }
 
 int main(int count, char **given) {

@@ -2,7 +2,8 @@
 #ifndef WORLD_H
 #define WORLD_H
 
-#include "psci_ctl.h"
+#include "psci_guest.h"
+#include "psci_record.h"
 
 enum { ENTRY = 0x40001000, MOST = PSCI_MOST_CORES };
 

@@ -1,7 +1,7 @@
 -- The number of the first core below a node, level by level.
 use Rattle.psci_board.proofs.Terms.{◌++◌, ◌+◌, ◌<◌, ◌∙◌, ◌∷◌, ◌≡◌, ◌≤◌, [], ap, arith, cases_lt}
 use Rattle.psci_board.proofs.Terms.{common_steps, drop, first_core, get_or, get_or_append_left}
-use Rattle.psci_board.proofs.Terms.{get_or_past, group_of, inl, inr, IsTree, length, length_push}
+use Rattle.psci_board.proofs.Terms.{get_or_past, group_of, IsTree, length, length_push}
 use Rattle.psci_board.proofs.Terms.{List, nat_tests, place_above, refl, size_below, suc, sum}
 use Rattle.psci_board.proofs.Terms.{sum_by_more, sym, take, take-append-drop, take_all, zero, ℕ}
 use Rattle.std.proofs.lemmas.List.{length-take-le}

@@ -160,7 +160,7 @@ abbrev pub is_empty_range : AddressRange → Bool
 is_empty_range r = nat_le r.end r.start
 
 abbrev pub kept_ranges : List AddressRange → RangesSummaryValue
-kept_ranges rs = record { first = take 4 rs; faulty = has_bad_range rs }
+kept_ranges rs = record { first = take 4 rs; faulty = has_bad_range (length rs) rs }
 
 kept_range : (rs : List AddressRange) (r : AddressRange)
     → with_range (kept_ranges rs) r ≡ kept_ranges (rs ++ r ∷ [])

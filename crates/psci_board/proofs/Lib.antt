@@ -6,6 +6,7 @@ pub mod Decided
 pub mod FaultRows
 pub mod Fields
 pub mod FirstCores
+pub mod FirstFault
 pub mod FormatRows
 pub mod Fronts
 pub mod Groups

@@ -30,6 +30,7 @@ pub use Rattle.psci_board.specs.Board.{address_up, BoardValue, child, children, 
 pub use Rattle.psci_board.specs.Board.{first_child, first_core, group_of, HasNode, height, index_in}
 pub use Rattle.psci_board.specs.Board.{is_in_some, is_width, IsBoard, IsTree, nodes, nodes_up}
 pub use Rattle.psci_board.specs.Board.{place_above, size_below}
+pub use Rattle.psci_board.specs.Draft.{has_bad_range, is_limit}
 pub use Rattle.psci_board.specs.Grammar.{BoardText, bracketed, format_part, IsListOf, IsRange}
 pub use Rattle.psci_board.specs.Grammar.{IsTreeText, Member, range, spaced, tree, TreeText}
 pub use Rattle.psci_board.specs.Grammar.Member.{Cluster, Group}
@@ -42,8 +43,8 @@ pub use Rattle.psci_board.specs.Spelling.{Ends, hex, IsHex, IsNumber, Reads}
 pub use Rattle.psci_board.specs.Summary.{no_ranges, tree_summary, TreeSummaryValue, value_and_rest}
 pub use Rattle.psci_board.specs.Summary.{with_ranges}
 pub use Rattle.psci_board.specs.SummaryVerdict.{summary_board, text_summary}
-pub use Rattle.psci_board.specs.Verdict.{clusters, format_or_original, has_bad_range, is_group}
-pub use Rattle.psci_board.specs.Verdict.{is_limit, is_out_of_width, numbers_in, range_of}
+pub use Rattle.psci_board.specs.Verdict.{clusters, format_or_original, is_group}
+pub use Rattle.psci_board.specs.Verdict.{is_out_of_width, numbers_in, range_of}
 pub use Rattle.psci_board.specs.Verdict.{verdict_or}
 pub use Rattle.psci_board.specs.declared.fault.BoardFault.{BoardFault}
 pub use Rattle.psci_board.specs.declared.fault.BoardFault.TheVariants.{BadBoot, BadLimit, BadRange}

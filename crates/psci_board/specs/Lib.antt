@@ -1,5 +1,6 @@
 pub mod Board
 pub mod Digits
+pub mod Draft
 pub mod Grammar
 pub mod Laws
 pub mod Level

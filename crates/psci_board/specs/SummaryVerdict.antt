@@ -1,16 +1,12 @@
 -- What is kept of a whole board text decides what is said of it.
-use Rattle.std.specs.Prelude.{ℕ, ◌^◌, ◌-◌, ◌%◌, ◌&&◌, ◌||◌, not, List, [], ◌∷◌, length, Option}
-use Rattle.std.specs.Prelude.{Some, None, nat_lt, ◌==◌, if◌then◌else◌}
+use Rattle.std.specs.Prelude.{ℕ, ◌%◌, ◌&&◌, ◌||◌, List, [], ◌∷◌, length, ◌==◌, if◌then◌else◌}
 use Rattle.std.specs.Str.Parse.{digits_value}
-use Rattle.psci_board.specs.declared.limits.TheConstants.{MOST_CORES, MOST_LIVES}
-use Rattle.psci_board.specs.declared.fault.BoardFault.{BoardFault}
-use Rattle.psci_board.specs.declared.fault.BoardFault.TheVariants.{Uneven, TooWide, TooManyCores}
-use Rattle.psci_board.specs.declared.fault.BoardFault.TheVariants.{BadRange, BadBoot, BadLimit}
+use Rattle.psci_board.specs.declared.draft.BoardDraft.{BoardDraft}
 use Rattle.psci_board.specs.declared.text.TextSummary.{TextSummary}
 use Rattle.psci_board.specs.Grammar.{BoardText}
 use Rattle.psci_board.specs.Board.{BoardValue, is_in_some}
 use Rattle.psci_board.specs.Summary.{TreeSummaryValue, tree_summary, with_ranges, no_ranges}
-use Rattle.psci_board.specs.Verdict.{format_or_original, is_limit}
+use Rattle.psci_board.specs.Verdict.{format_or_original}
 
 -- what is kept of a board text
 abbrev pub text_summary : BoardText → TextSummary
@@ -41,13 +37,14 @@ summary_board t = record {
   format = t.format;
 }
 
--- the first fault
-unfoldable pub fault_in : TextSummary → Option BoardFault
-fault_in t =
-    if t.tree.has_group && t.tree.has_cluster then Some Uneven
-    else (if t.tree.numbers.bad_width || t.tree.bad_width then Some TooWide
-    else (if nat_lt MOST_CORES t.tree.numbers.total then Some TooManyCores
-    else (if t.ranges.faulty then Some BadRange
-    else (if not (t.boot % 4 == 0 && is_in_some t.ranges.first t.boot) then Some BadBoot
-    else (if not (is_limit (2 ^ 32 - 1) t.starts && is_limit MOST_LIVES t.lives) then Some BadLimit
-    else None)))))
+-- what decides whether the text has a board
+abbrev pub draft_of : TextSummary → BoardDraft
+draft_of t = record {
+  is_uneven = t.tree.has_group && t.tree.has_cluster;
+  is_too_wide = t.tree.numbers.bad_width || t.tree.bad_width;
+  cores = t.tree.numbers.total;
+  has_bad_range = t.ranges.faulty;
+  may_boot = t.boot % 4 == 0 && is_in_some t.ranges.first t.boot;
+  starts = t.starts;
+  lives = t.lives;
+}

@@ -1,23 +1,22 @@
 -- What a board text says: its board, or the first fault.
-use Rattle.std.specs.Prelude.{◌≡◌, ℕ, ◌^◌, ◌-◌, ◌||◌, ◌&&◌, not, Bool, true, false, List, [], ◌∷◌}
+use Rattle.std.specs.Prelude.{◌≡◌, ℕ, ◌||◌, ◌&&◌, not, Bool, true, false, List, [], ◌∷◌}
 use Rattle.std.specs.Prelude.{length, map, flat_map, sum, Option, Some, None, Result, Ok, Err}
-use Rattle.std.specs.Prelude.{nat_lt, nat_le, ◌==◌, if◌then◌else◌, IsOk}
+use Rattle.std.specs.Prelude.{nat_lt, ◌==◌, if◌then◌else◌, IsOk}
 use Rattle.std.specs.List.{list_any}
 use Rattle.std.specs.Str.Parse.{digits_value}
 use Rattle.psci_board.specs.psci_abi.declared.format.Format.{Format}
 use Rattle.psci_board.specs.psci_abi.declared.format.Format.TheVariants.{Original}
-use Rattle.psci_board.specs.declared.limits.TheConstants.{MOST_CHILDREN, MOST_CORES, MOST_RANGES}
-use Rattle.psci_board.specs.declared.limits.TheConstants.{MOST_LIVES}
+use Rattle.psci_board.specs.declared.limits.TheConstants.{MOST_CHILDREN}
 use Rattle.psci_board.specs.declared.range.AddressRange.{AddressRange}
+use Rattle.psci_board.specs.declared.draft.BoardDraft.{BoardDraft}
 use Rattle.psci_board.specs.declared.fault.BoardFault.{BoardFault}
-use Rattle.psci_board.specs.declared.fault.BoardFault.TheVariants.{Grammar, Uneven, TooWide}
-use Rattle.psci_board.specs.declared.fault.BoardFault.TheVariants.{TooManyCores, BadRange, BadBoot}
-use Rattle.psci_board.specs.declared.fault.BoardFault.TheVariants.{BadLimit, Memory}
+use Rattle.psci_board.specs.declared.fault.BoardFault.TheVariants.{Grammar, Memory}
 use Rattle.psci_board.specs.Grammar.{Member, TreeText, BoardText}
 use Rattle.psci_board.specs.Grammar.Member.{Cluster, Group}
 use Rattle.psci_board.specs.Grammar.TreeText.{One, Members}
 use Rattle.psci_board.specs.Reading.{board_text}
 use Rattle.psci_board.specs.Board.{BoardValue, may_enter}
+use Rattle.psci_board.specs.Draft.{first_fault, has_bad_range, unless}
 
 -- a member is a list
 abbrev pub is_group : Member → Bool
@@ -59,10 +58,6 @@ is_too_wide t = list_any (λ w. list_any is_out_of_width w) (levels_of t)
 abbrev pub range_of : List ℕ × List ℕ → AddressRange
 range_of r = record { start = digits_value 16 r.0; end = digits_value 16 r.1 }
 
--- there are more ranges than there may be, or one holds no address
-abbrev pub has_bad_range : List AddressRange → Bool
-has_bad_range rs = nat_lt MOST_RANGES (length rs) || list_any (λ r. nat_le r.end r.start) rs
-
 -- the format of power state words: the original one, where a text names none
 abbrev pub format_or_original : Option Format → Format
 format_or_original None = Original
@@ -79,20 +74,21 @@ board_in t = record {
   format = format_or_original t.format;
 }
 
--- a limit of 1 up to this one
-abbrev pub is_limit : ℕ → ℕ → Bool
-is_limit most n = nat_lt 0 n && nat_le n most
+-- what decides whether a text has a board
+abbrev pub draft_in : BoardText → BoardDraft
+draft_in t = let b = board_in t in record {
+  is_uneven = is_uneven t.tree;
+  is_too_wide = is_too_wide t.tree;
+  cores = sum (clusters t.tree);
+  has_bad_range = has_bad_range (length b.ranges) b.ranges;
+  may_boot = may_enter b b.boot;
+  starts = b.starts;
+  lives = b.lives;
+}
 
--- the faults in their order
-unfoldable pub verdict : BoardText → Result BoardValue BoardFault
-verdict t = let b = board_in t in
-    if is_uneven t.tree then Err Uneven
-    else (if is_too_wide t.tree then Err TooWide
-    else (if nat_lt MOST_CORES (sum (clusters t.tree)) then Err TooManyCores
-    else (if has_bad_range b.ranges then Err BadRange
-    else (if not (may_enter b b.boot) then Err BadBoot
-    else (if not (is_limit (2 ^ 32 - 1) b.starts && is_limit MOST_LIVES b.lives) then Err BadLimit
-    else Ok b)))))
+-- the board, or the first fault
+abbrev pub verdict : BoardText → Result BoardValue BoardFault
+verdict t = unless (first_fault (draft_in t)) (board_in t)
 
 -- the verdict, where the text is of the grammar
 abbrev pub verdict_or : Option BoardText → Result BoardValue BoardFault

@@ -15,6 +15,7 @@ mod affinity;
 mod board;
 mod build;
 mod digits;
+mod draft;
 mod fault;
 mod format_text;
 mod level;
@@ -35,6 +36,7 @@ mod word_laws;
 mod words;
 
 pub use board::{Board, is_in_some};
+pub use draft::BoardDraft;
 pub use fault::BoardFault;
 pub use level::Level;
 pub use limits::{MOST_CHILDREN, MOST_CORES, MOST_LEVELS, MOST_LIVES, MOST_ON_PATH, MOST_RANGES};

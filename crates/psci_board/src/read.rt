@@ -5,7 +5,7 @@ ghost use Rattle.psci_board.specs.Verdict.{Answers, board_of};
 use crate::board::Board;
 use crate::build::build;
 use crate::fault::BoardFault;
-use crate::text::{fault, whole_text};
+use crate::text::whole_text;
 use std::alloc::Global;
 
 impl Board {
@@ -25,7 +25,7 @@ impl Board {
         let Some(text) = whole_text(text) else {
             return Err(BoardFault::Grammar);
         };
-        match fault(&text) {
+        match text.draft().first_fault() {
             Some(fault) => Err(fault),
             None => Ok(build(alloc, &text)?),
         }

@@ -148,11 +148,11 @@ impl TreeSummary {
         self.numbers.bad_width || self.bad_width
     }
 
-    /// Whether there are more than 256 cores.
-    pub fn has_too_many(&self) -> bool
-        ensures { result ≡ nat_lt MOST_CORES self.now.numbers.total }
+    /// How many cores there are, or 257.
+    pub fn cores(&self) -> u64
+        ensures { result ≡ self.now.numbers.total }
     {
-        self.numbers.total > MOST_CORES as u64
+        self.numbers.total
     }
 
     /// The first numbers, each above 16 as 17: how many cores each cluster has.

@@ -5,6 +5,7 @@ use Rattle.std.specs.Prelude.{not, ◌&&◌}
 use Rattle.std.proofs.lemmas.Bool.{eq-eqb, eqb-true, false≢true}
 use Rattle.psci_board.specs.Board.{BoardValue, cores}
 use Rattle.psci_messages.specs.Message.{MessageValue}
+use Rattle.psci_messages.specs.declared.kind.Kind.TheVariants as kinds
 use Rattle.psci_ctl_spec.specs.declared.call.CtlCall.{CtlCall}
 use Rattle.psci_ctl_spec.specs.declared.call.CtlCall.TheVariants as calls
 use Rattle.psci_ctl_spec.specs.Changes.{change}
@@ -17,7 +18,7 @@ use Rattle.psci_world_spec.specs.declared.event.Event.TheVariants.{Deliver, Rese
 use Rattle.psci_port.specs.Port.{Port}
 use Rattle.psci_port.specs.Port.{Delivers, Wakes, Resets}
 use Rattle.psci_port.specs.Port.{Rises, stage_at}
-use Rattle.psci_port.specs.Port.{blank, commanded, first_row, gone_to, row_by}
+use Rattle.psci_port.specs.Port.{blank, commanded, first_row, row_by}
 use Rattle.psci_port.specs.Port.{started, step}
 use Rattle.psci_port.specs.Port.{words}
 use Rattle.psci_port.specs.Rules.{May}
@@ -132,31 +133,16 @@ module _ (b : BoardValue) (p : Port) (s : ControlValue) (side : IsSideOf b s p) 
       left = asked.gates
           ∙ ap (λ (f : Effect). gates_after (ending_of f) s.gates) (effect_same call)
 
-  -- a core that rises is elsewhere, and has the lock as before
-  stage_side : (t : ControlValue) (q : Port) (c : ℕ) (y : Stage) (l : Option ℕ) → IsSideOf b t q
-      → IsSideOf b t (record (gone_to q c y) { lock = l })
-  stage_side t q c y l is = record {
+  -- who has the lock is nothing to the side
+  lock_side : (t : ControlValue) (q : Port) (l : Option ℕ) → IsSideOf b t q
+      → IsSideOf b t (record q { lock = l })
+  lock_side t q l is = record {
     board = is.board;
     values = is.values;
-    written = λ k has. is.written k has ∙ door (k == c) k refl;
-    opened = λ k has. is.opened k has ∙ opened (k == c) k refl;
-    heard = λ k has. word (k == c) k refl (is.heard k has);
+    written = is.written;
+    opened = is.opened;
+    heard = is.heard;
   }
-    where
-      door : (u : Bool) (k : ℕ) → (k == c) ≡ u → (q.row k).door
-          ≡ (cond u (record (q.row c) { stage = y }) (q.row k)).door
-      door true k e = ap (λ i. (q.row i).door) (eqb-true k c e)
-      door false k e = refl
-
-      opened : (u : Bool) (k : ℕ) → (k == c) ≡ u → (q.row k).opened
-          ≡ (cond u (record (q.row c) { stage = y }) (q.row k)).opened
-      opened true k e = ap (λ i. (q.row i).opened) (eqb-true k c e)
-      opened false k e = refl
-
-      word : (u : Bool) (k : ℕ) → (k == c) ≡ u → heard t k ≤ words q k
-          → heard t k ≤ (cond u (record (q.row c) { stage = y }) (q.row k)).stopped
-      word true k e low = subst (λ i. heard t k ≤ words q i) (eqb-true k c e) low
-      word false k e low = low
 
   module _ (kept : IsKept p) where
     -- where the side has heard that a core stands in its last start, the core says so
@@ -177,7 +163,8 @@ module _ (b : BoardValue) (p : Port) (s : ControlValue) (side : IsSideOf b s p) 
         lacks (armed_holder (stage_at p c) ((kept.rows c).stands word) (kept.held.holder c at)) at
 
     pub delivers_side : (t : ControlValue) (k : ℕ) (m : MessageValue) → IsSendable b m
-        → waits_in s (calls.Deliver m) ≡ false → ArmedLacks p m.core.number
+        → waits_in s (calls.Deliver m) ≡ false
+        → (m.kind ≡ kinds.Start → ArmedLacks p m.core.number)
         → IsAsked (calls.Deliver m) s t → IsRightly b t p (Delivers k m)
     unfolding step
     delivers_side t k m can free lacks asked = record {
@@ -185,7 +172,7 @@ module _ (b : BoardValue) (p : Port) (s : ControlValue) (side : IsSideOf b s p) 
         can,
         waits_less (touches b p.values m) _ _ there stands,
         λ touched start. free_of m.core.number
-            (eqb-true _ _ (stands (met (touches b p.values m) _ there touched))) lacks,
+            (eqb-true _ _ (stands (met (touches b p.values m) _ there touched))) (lacks start),
       );
       side = commanded_side t (Deliver k) (calls.Deliver m) asked;
     }
@@ -210,7 +197,7 @@ module _ (b : BoardValue) (p : Port) (s : ControlValue) (side : IsSideOf b s p) 
       same_word = own_word ∙ ap (λ (v : Values). v.starts c) side.values
           ∙ sym (truly c has own_word)
 
-      woken_side : IsSideOf b t
+      pub woken_side : IsSideOf b t
           (commanded b p (Wake c) (calls.Wake (record { number = c }) (words p c)))
       woken_side =
           commanded_side t (Wake c) (calls.Wake (record { number = c }) (words p c))
@@ -227,8 +214,8 @@ module _ (b : BoardValue) (p : Port) (s : ControlValue) (side : IsSideOf b s p) 
       unfolding step
       rises_side may = record {
         may = may;
-        side = stage_side t
-            (commanded b p (Wake c) (calls.Wake (record { number = c }) (words p c))) c _ p.lock
+        side = lock_side t
+            (commanded b p (Wake c) (calls.Wake (record { number = c }) (words p c))) p.lock
             woken_side;
       }
 

@@ -17,6 +17,7 @@ ghost use Rattle.psci_ctl_spec.specs.Values.{Values};
 ghost use Rattle.psci_ctl_spec.specs.declared.call.CtlCall.{CtlCall};
 ghost use Rattle.psci_ctl_spec.specs.declared.call.CtlCall.TheVariants as calls;
 ghost use Rattle.psci_messages.specs.Message.{MessageValue};
+ghost use Rattle.psci_messages.specs.declared.kind.Kind.TheVariants as kinds;
 ghost use Rattle.psci_messages.specs.declared.start.Start.{Start};
 ghost use Rattle.psci_port.specs.Port.{Act, Delivers, Opens, Port, Resets, Rises, Wakes, Writes};
 ghost use Rattle.psci_port.specs.Port.{cold, state, step, words};
@@ -27,15 +28,16 @@ use psci_ctl_spec::law_replies;
 
 /// What the power controller's side does keeps the rules of a port, and the side has after it what
 /// it has of the port: so the rules hold of all that it decides. What is left to the machine stands
-/// as a premise: that an armed core has not the lock (`ArmedLacks`), that a core which is reset by
-/// itself has it not, and that an armed core hears its own wake-up with the lock in hand.
+/// as a premise: that an armed core which is started by another has not the lock (`ArmedLacks`),
+/// that a core which is reset by itself has it not, and that an armed core hears its own wake-up
+/// with the lock in hand.
 pub fn law_control()
     ensures begins { (b : BoardValue) (s : ControlValue) (before : List (List Record))
         → IsNew b s → IsSideOf b s (cold b before) }
     ensures delivers { (b : BoardValue) (acts : List Act) (s t : ControlValue) (k : ℕ)
         (m : MessageValue) → IsPortRun b acts → IsSideOf b s (state b acts)
         → IsSendable b m → waits_in s (calls.Deliver m) ≡ false
-        → ArmedLacks (state b acts) m.core.number
+        → (m.kind ≡ kinds.Start → ArmedLacks (state b acts) m.core.number)
         → IsAsked (calls.Deliver m) s t → IsRightly b t (state b acts) (Delivers k m) }
     ensures wakes { (b : BoardValue) (acts : List Act) (s t : ControlValue) (c : ℕ)
         → IsPortRun b acts → IsSideOf b s (state b acts) → c < cores b

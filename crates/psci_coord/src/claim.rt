@@ -70,16 +70,16 @@ pub fn climb(tree: &Tree, board: &Board, core: Core, wish: &Wish, parts: &mut Pa
     ensures { parts.new ≡ claims_of board.now (view_of tree.now) core.number
         (wanted board.now (view_of tree.now) core.number wish.now) }
 {
-    let standings = tree.standings(core);
     for level in 0..board.height() + 1 {
-        let depth = wish.depth(level, standings.lows[level as usize]);
+        let standing = tree.standing(core, level);
+        let depth = wish.depth(level, standing.low);
         if depth == 0 {
             break;
         }
         parts.push(Part {
             level,
             depth,
-            generation: standings.known[level as usize],
+            generation: standing.known,
         });
     }
 }

@@ -1,7 +1,13 @@
 pub mod Applying
 pub mod Children
 pub mod Kept
+pub mod Loaded
 pub mod Looked
+pub mod SavedFaults
+pub mod SavedWords
+pub mod Sums
 pub mod Started
 pub mod Walked
+pub mod Written
 pub mod KeptRows
+pub mod SavedRows

@@ -1,6 +1,8 @@
 //! What the power controller keeps of the power domains of one level.
 
-use psci_board::Memory;
+use crate::loading::load_rows;
+use crate::row::CoreRow;
+use psci_board::{Board, Memory};
 use psci_state::POWER_DOWN;
 use std::alloc::Global;
 use std::marker::Model;
@@ -37,10 +39,15 @@ impl Model for Level {
     ghost view = { λ l. l.rows.items };
 }
 
-ghost use Rattle.std.specs.Prelude.{◌≡◌, ◌<◌, ◌≤◌, ◌+◌, nat_le, length, take, drop, replicate};
+ghost use Rattle.std.specs.Prelude.{◌≡◌, ◌<◌, ◌≤◌, ◌+◌, ◌++◌, nat_le, length, take, drop};
+ghost use Rattle.std.specs.Prelude.{replicate};
 ghost use Rattle.std.specs.Prelude.{slice_index_or, slice_set, IfOk};
-ghost use Rattle.std.specs.List.{list_all};
-ghost use Rattle.psci_ctl.specs.Rows.{off_domain};
+ghost use Rattle.std.specs.Prelude.{ℕ};
+ghost use Rattle.std.specs.List.{All, list_all};
+ghost use Rattle.psci_board.specs.Board.{IsBoard, cores, height, nodes};
+ghost use Rattle.psci_ctl_spec.specs.Values.{starts_below};
+ghost use Rattle.psci_ctl.specs.Rows.{core_row, off_domain};
+ghost use Rattle.psci_ctl.specs.Saved.{depths};
 
 impl Level {
     /// A level of so many domains, all of them powered down.
@@ -83,10 +90,53 @@ impl Level {
         self.rows[place as usize] = row;
     }
 
+    /// Keeps these depths, and with each the sum of the starts of the cores below.
+    pub fn load(&mut self, board: &Board, level: u32, rows: &[CoreRow], words: &[u64])
+        requires board { IsBoard board.now }
+        requires cores { length rows.now ≡ cores board.now }
+        requires level { level ≤ height board.now }
+        requires count { length self.old ≡ nodes board.now level }
+        requires words { length words.now ≡ nodes board.now level }
+        requires few { All (λ d. d ≤ 3) words.now }
+        ensures depths { depths self.new ≡ words.now }
+        ensures sums { (place : ℕ) → place < nodes board.now level
+            → (slice_index_or self.new place off_domain).starts
+            ≡ starts_below board.now (λ c. (core_row rows.now c).starts)
+            (record { level = level; place = place }) }
+    {
+        load_rows(&mut self.rows, board, level, rows, words);
+    }
+
+    /// How many domains there are.
+    pub fn count(&self) -> usize
+        ensures { result ≡ length self.now }
+    {
+        self.rows.len()
+    }
+
+    /// Writes the depth of each domain, from this place on.
+    pub fn save(&self, words: &mut [u64], start: usize)
+        requires { start + length self.now ≤ length words.old }
+        ensures { take (start + length self.now) words.new
+            ≡ take start words.old ++ depths self.now }
+    {
+        save_depths(&self.rows, words, start);
+    }
+
     /// Powers all domains down, and forgets all starts.
     pub fn turn_off(&mut self)
         ensures { self.new ≡ replicate (length self.old) off_domain }
     {
         self.rows.fill(DomainRow::OFF);
+    }
+}
+
+/// Writes the depth of each domain, from this place on.
+fn save_depths(rows: &[DomainRow], words: &mut [u64], start: usize)
+    requires { start + length rows.now ≤ length words.old }
+    ensures { take (start + length rows.now) words.new ≡ take start words.old ++ depths rows.now }
+{
+    for place in 0..rows.len() {
+        words[start + place] = u64::from(rows[place].depth);
     }
 }

@@ -22,9 +22,11 @@ use Rattle.psci_port.specs.Port.{TakesUp, Stands, Arms, Sleeps, Delivers, Wakes,
 use Rattle.psci_port.specs.Port.{Rouses, Rises, Turns, Opens, Cuts, Restarts, Reboots, blank, cold}
 use Rattle.psci_port.specs.Port.{commanded, first_row, going_on, lives_of, row_by, stage_at}
 use Rattle.psci_port.specs.Port.{started, step, stopping, taking_up, woken, words}
+use Rattle.psci_port.specs.Stages.{stage_by}
 use Rattle.psci_port.specs.Rebooted.{rebooted}
 use Rattle.psci_port.specs.Stages as stages
-use Rattle.psci_port.specs.Stages.{Stage, risen, stage_in}
+use Rattle.psci_port.specs.Stages.{Stage, roused_at, stage_in}
+use Rattle.psci_port.proofs.Rows.{once_started}
 use Rattle.psci_enter.specs.SideOf.{IsFirmwareOf, is_end, is_quiet}
 use Rattle.psci_enter.proofs.Others.{reset_goes, wake_goes}
 
@@ -51,14 +53,14 @@ first_elsewhere : (t : Bool)
 first_elsewhere true = refl
 first_elsewhere false = refl
 
-risen_normal : (y : Stage) → risen y ≡ stages.Normal → y ≡ stages.Normal
-risen_normal stages.Standing e = e
-risen_normal stages.AtDoor e = absurd (elsewhere stages.Woken refl e)
-risen_normal (stages.Entering s) e = e
-risen_normal stages.Normal e = e
-risen_normal stages.Leaving e = e
-risen_normal stages.Armed e = e
-risen_normal stages.Woken e = e
+roused_normal : (y : Stage) → roused_at y ≡ stages.Normal → y ≡ stages.Normal
+roused_normal stages.Standing e = absurd (elsewhere stages.Armed refl e)
+roused_normal stages.AtDoor e = absurd (elsewhere stages.Woken refl e)
+roused_normal (stages.Entering s) e = e
+roused_normal stages.Normal e = e
+roused_normal stages.Leaving e = e
+roused_normal stages.Armed e = e
+roused_normal stages.Woken e = e
 
 row_normal : (c : ℕ) (f : Effect) (r : Row) → (row_by c f r).stage ≡ stages.Normal
     → r.stage ≡ stages.Normal
@@ -66,7 +68,8 @@ row_normal c Nothing r e = e
 row_normal c (Starts d cause) r e = by (c == d) e
   where
     by : (t : Bool) → (cond t (started cause r) r).stage ≡ stages.Normal → r.stage ≡ stages.Normal
-    by true e = absurd (elsewhere stages.AtDoor refl e)
+    by true e = absurd (elsewhere (stage_by cause r.stage)
+        (once_started (λ y. is_normal y ≡ false) refl refl cause r.stage) e)
     by false e = e
 row_normal c (Deepens d ps) r e = e
 row_normal c Ends r e = absurd (elsewhere stages.Standing refl e)
@@ -179,10 +182,7 @@ module _ (b : BoardValue) (p : Port) (f : FirmwareValue) (of : IsFirmwareOf b f 
   rises_firmware : (c : ℕ) → IsFirmwareOf b f (step b p (Rises c))
   unfolding step
   rises_firmware c =
-      let was : IsFirmwareOf b f (woken b p c) = wakes_firmware b p f of c in
-      moves b (woken b p c) f was (step b p (Rises c)) c
-      (record ((woken b p c).row c) { stage = risen (stage_at (woken b p c) c) }) refl refl
-      (λ k. refl) (risen_normal (stage_at (woken b p c) c))
+      keeps b (woken b p c) f (wakes_firmware b p f of c) (step b p (Rises c)) refl refl (λ d e. e)
 
   pub quiet_firmware : (act : Act) → is_quiet act ≡ true → IsFirmwareOf b f (step b p act)
   unfolding step
@@ -203,8 +203,9 @@ module _ (b : BoardValue) (p : Port) (f : FirmwareValue) (of : IsFirmwareOf b f 
   quiet_firmware (Delivers k m) so = absurd (false≢true so)
   quiet_firmware (Wakes c) so = wakes_firmware b p f of c
   quiet_firmware (Resets c) so = resets_firmware b p f of c
-  quiet_firmware (Rouses c) so = moves b p f of _ c (record (p.row c) { stage = stages.Armed }) refl
-      refl (λ k. refl) (λ e. absurd (elsewhere stages.Armed refl e))
+  quiet_firmware (Rouses c) so =
+      moves b p f of _ c (record (p.row c) { stage = roused_at (stage_at p c) }) refl refl
+      (λ k. refl) (roused_normal (stage_at p c))
   quiet_firmware (Rises c) so = rises_firmware c
   quiet_firmware (Turns c) so = moves b p f of _ c (record (p.row c) { stage = stages.AtDoor }) refl
       refl (λ k. refl) (λ e. absurd (elsewhere stages.AtDoor refl e))

@@ -21,13 +21,15 @@ use Rattle.psci_world_spec.specs.declared.said.Record.{Record}
 use Rattle.psci_port.specs.Port.{Act, Locks, Unlocks, Calls, Enters, Takes, Finishes, Port, Row}
 use Rattle.psci_port.specs.Port.{TakesUp, Stands, Arms, Sleeps, Delivers, Wakes, Resets, Writes}
 use Rattle.psci_port.specs.Port.{Rouses, Rises, Turns, Opens, Cuts, Restarts, Reboots, blank}
-use Rattle.psci_port.specs.Port.{commanded, ended, finished, first_row, row_by}
+use Rattle.psci_port.specs.Port.{commanded, ended, finished, first_row, held_by, row_by}
+use Rattle.psci_port.specs.Stages.{stage_by}
 use Rattle.psci_port.specs.Port.{stage_at, started, step, stopping, taking_up, woken, words}
 use Rattle.psci_port.specs.Rules.{May}
 use Rattle.psci_port.specs.Stages as stages
-use Rattle.psci_port.specs.Stages.{Stage, has_stopped, looks, risen, stage_in}
+use Rattle.psci_port.specs.Stages.{Stage, has_stopped, looks, roused_at, started_at}
 use Rattle.psci_port.specs.Waiting.{stands, touches}
 use Rattle.psci_port.proofs.Keeping.{IsKept}
+use Rattle.psci_port.proofs.Held.{delivered_held, held_after, woken_held}
 use Rattle.psci_port.proofs.Started.{delivered_starts, delivered_touches, reset_starts_it}
 use Rattle.psci_port.proofs.Started.{starts_core, woken_starts}
 use Rattle.psci_enter.specs.declared.post.Post.{Post}
@@ -53,15 +55,35 @@ unfolding reply effect_of
 reset_goes b v core = kick_goes core.number causes.Reset (reset_of b v core.number)
 
 -- one that stands may be started
-start_fits : (post : Post) (y : Stage) → Fits post y → has_stopped y ≡ true
-    → Fits post stages.AtDoor
-start_fits Waiting y fits stood = refl
-start_fits (Entering s) y fits stood =
+stood_fits : (post : Post) (y : Stage) → Fits post y → has_stopped y ≡ true
+    → Fits post (started_at y)
+stood_fits Waiting y fits stood = by y fits
+  where
+    by : (y : Stage) → looks y ≡ true → looks (started_at y) ≡ true
+    by stages.Standing at = refl
+    by stages.AtDoor at = refl
+    by (stages.Entering s) at = absurd (false≢true at)
+    by stages.Normal at = absurd (false≢true at)
+    by stages.Leaving at = absurd (false≢true at)
+    by stages.Armed at = absurd (false≢true at)
+    by stages.Woken at = absurd (false≢true at)
+stood_fits (Entering s) y fits stood =
     absurd (false≢true (ap has_stopped (sym fits) ∙ stood))
-start_fits Running y fits stood = absurd (false≢true (ap has_stopped (sym fits) ∙ stood))
-start_fits Leaving y fits stood = absurd (false≢true (ap has_stopped (sym fits) ∙ stood))
-start_fits Armed y fits stood = inr refl
-start_fits Woken y fits stood = absurd (false≢true (ap has_stopped (sym fits) ∙ stood))
+stood_fits Running y fits stood = absurd (false≢true (ap has_stopped (sym fits) ∙ stood))
+stood_fits Leaving y fits stood = absurd (false≢true (ap has_stopped (sym fits) ∙ stood))
+stood_fits Armed y fits stood = elim fits [
+  | inl at ↦ inr (ap started_at at)
+  | inr at ↦ inr (ap started_at at)
+]
+stood_fits Woken y fits stood = absurd (false≢true (ap has_stopped (sym fits) ∙ stood))
+
+-- where that is no reset
+start_fits : (cause : Cause) (post : Post) (y : Stage) → ((x : Bool) → held_by cause x ≡ x)
+    → Fits post y → has_stopped y ≡ true → Fits post (stage_by cause y)
+start_fits causes.Boot post y free fits stood = stood_fits post y fits stood
+start_fits causes.On post y free fits stood = stood_fits post y fits stood
+start_fits causes.Wake post y free fits stood = stood_fits post y fits stood
+start_fits causes.Reset post y free fits stood = absurd (false≢true (sym (free false)))
 
 other_row : (t : Bool) (r q : Row) → not t ≡ true → cond t r q ≡ q
 other_row true r q is = absurd (false≢true is)
@@ -105,7 +127,7 @@ module _ (b : BoardValue) (p : Port) (s : FirmwareSide) (is : IsSideOf b s p) wh
   -- The power controller is asked ----------------------------------------------------------------
 
   started_row : (d : ℕ) (cause : Cause) (q : Port)
-      → (d ≡ c → has_stopped (stage_at p c) ≡ true)
+      → (d ≡ c → (has_stopped (stage_at p c) ≡ true) × ((x : Bool) → held_by cause x ≡ x))
       → q.row c ≡ cond (c == d) (started cause (p.row c)) (p.row c) → IsSideOf b s q
   started_row d cause q stood at = by (c == d) refl
     where
@@ -113,18 +135,20 @@ module _ (b : BoardValue) (p : Port) (s : FirmwareSide) (is : IsSideOf b s p) wh
       by true e =
           let own : q.row c ≡ started cause (p.row c) =
           at ∙ ap (λ t. cond t (started cause (p.row c)) (p.row c)) e in
+          let so = stood (sym (eqb-true c d e)) in
           record {
             has = is.has;
             used = is.used ∙ ap (λ (x : Row). x.used) (sym own);
             post = subst (λ (x : Row). Fits s.post x.stage) (sym own)
-                (start_fits s.post (stage_at p c) is.post (stood (sym (eqb-true c d e))));
+                (start_fits cause s.post (stage_at p c) so.1 is.post so.0);
           }
       by false e =
           like_side q (p.row c) (at ∙ ap (λ t. cond t (started cause (p.row c)) (p.row c)) e) refl
           refl
 
   pub effect_side : (f : Effect) (q : Port) → is_end f ≡ false
-      → (starts_core f ≡ Some c → has_stopped (stage_at p c) ≡ true)
+      → (starts_core f ≡ Some c
+      → (has_stopped (stage_at p c) ≡ true) × ((x : Bool) → held_after f x ≡ x))
       → q.row c ≡ row_by c f (p.row c) → IsSideOf b s q
   effect_side Nothing q goes stood at = like_side q (p.row c) at refl refl
   effect_side (Starts d cause) q goes stood at =
@@ -153,16 +177,23 @@ module _ (b : BoardValue) (p : Port) (s : FirmwareSide) (is : IsSideOf b s p) wh
     unfolding step
     delivers_side k m may goes =
         effect_side (now (asked.Deliver m)) (commanded b p (Deliver k) (asked.Deliver m)) goes
-        (λ e. stands_stopped m.core.number (delivered_starts b p.values m c e).1
-        (met (touches b p.values m) (stands p.values (words p) m.core.number) may.1
-        (delivered_touches b p.values m c e))) refl
+        (λ e. (
+          stands_stopped m.core.number (delivered_starts b p.values m c e).1
+              (met (touches b p.values m) (stands p.values (words p) m.core.number) may.1
+              (delivered_touches b p.values m c e)),
+          delivered_held b m (reply b p.values (asked.Deliver m)),
+        )) refl
 
     wakes_side : (d : ℕ) → stands p.values (words p) d ≡ true
         → IsSideOf b s (woken b p d)
     wakes_side d stood =
         effect_side (now (asked.Wake (record { number = d }) (words p d))) (woken b p d)
         (wake_goes b p.values (record { number = d }) (words p d))
-        (λ e. stands_stopped d (woken_starts b p.values d (words p d) c e) stood) refl
+        (λ e. (
+          stands_stopped d (woken_starts b p.values d (words p d) c e) stood,
+          woken_held b d (words p d) (reply b p.values (asked.Wake (record { number = d })
+              (words p d))),
+        )) refl
 
     resets_other : (d : ℕ) → not (c == d) ≡ true
         → IsSideOf b s (commanded b p (Reset d) (asked.Reset (record { number = d })))
@@ -177,10 +208,7 @@ module _ (b : BoardValue) (p : Port) (s : FirmwareSide) (is : IsSideOf b s p) wh
     rises_other d other =
         effect_side (now (asked.Wake (record { number = d }) (words p d))) (step b p (Rises d))
         (wake_goes b p.values (record { number = d }) (words p d))
-        (λ e. absurd (not_same c d other (woken_starts b p.values d (words p d) c e)))
-        (other_row (c == d)
-        (record ((woken b p d).row d) { stage = risen (stage_at (woken b p d) d) })
-        ((woken b p d).row c) other)
+        (λ e. absurd (not_same c d other (woken_starts b p.values d (words p d) c e))) refl
 
     ends_other : (d : ℕ) (o : Option Record) → not (c == d) ≡ true → IsSideOf b s (finished p d o)
     ends_other d None other = is
@@ -205,7 +233,7 @@ module _ (b : BoardValue) (p : Port) (s : FirmwareSide) (is : IsSideOf b s p) wh
     apart_side (Wakes d) may so = wakes_side d may.1
     apart_side (Resets d) may so = resets_other d so
     apart_side (Rouses d) may so =
-        apart_row _ d (record (p.row d) { stage = stages.Armed }) refl so
+        apart_row _ d (record (p.row d) { stage = roused_at (stage_at p d) }) refl so
     apart_side (Rises d) may so = rises_other d so
     apart_side (Turns d) may so =
         apart_row _ d (record (p.row d) { stage = stages.AtDoor }) refl so

@@ -67,7 +67,7 @@ is_elsewhere is = false≢true (sym (ap looks is.post))
 -- Where a core is whose monitor is at a post
 each_fits : Fits Waiting stages.Standing × Fits Waiting stages.AtDoor
     × Fits (Entering (start 2)) (stages.Entering (start 2)) × Fits Running stages.Normal
-    × Fits Leaving stages.Leaving × Fits Armed stages.Armed × Fits Armed stages.AtDoor
+    × Fits Leaving stages.Leaving × Fits Armed stages.Armed × Fits Armed stages.Woken
     × Fits Woken stages.Woken
 each_fits = (refl, refl, refl, refl, refl, inl refl, inr refl, refl)
 
@@ -83,7 +83,8 @@ number_of stages.Woken = 5
 fits_no_other : (Fits Waiting stages.Armed → ⊥)
     × (Fits (Entering (start 2)) (stages.Entering (start 3)) → ⊥)
     × (Fits Running stages.Leaving → ⊥) × (Fits Leaving stages.Armed → ⊥)
-    × (Fits Armed stages.Standing → ⊥) × (Fits Woken stages.AtDoor → ⊥)
+    × (Fits Armed stages.Standing → ⊥) × (Fits Armed stages.AtDoor → ⊥)
+    × (Fits Woken stages.AtDoor → ⊥)
 fits_no_other = (
   λ e. false≢true e,
   λ e. eqb-false 13 12 refl (ap number_of e),
@@ -91,7 +92,11 @@ fits_no_other = (
   λ e. eqb-false 4 3 refl (ap number_of e),
   λ e. elim e [
     | inl is ↦ eqb-false 0 4 refl (ap number_of is)
-    | inr is ↦ eqb-false 0 1 refl (ap number_of is)
+    | inr is ↦ eqb-false 0 5 refl (ap number_of is)
+  ],
+  λ e. elim e [
+    | inl is ↦ eqb-false 1 4 refl (ap number_of is)
+    | inr is ↦ eqb-false 1 5 refl (ap number_of is)
   ],
   λ e. eqb-false 1 5 refl (ap number_of e),
 )

@@ -2,7 +2,7 @@
 use Rattle.std.proofs.Common.{◌<◌, ◌==◌, ◌∙◌, ◌≡◌, ◌⊎◌, ap, arith, Bool, cond, false, inl, inr}
 use Rattle.std.proofs.Common.{Option, None, Some, refl, subst, sym, true, ℕ}
 use Rattle.std.specs.Prelude.{not, ◌&&◌}
-use Rattle.std.proofs.lemmas.Bool.{eq-eqb, false≢true}
+use Rattle.std.proofs.lemmas.Bool.{eq-eqb, eqb-true, false≢true}
 use Rattle.psci_board.specs.Board.{BoardValue, cores}
 use Rattle.psci_ctl_spec.specs.declared.call.CtlCall.TheVariants as asked
 use Rattle.psci_ctl_spec.specs.declared.kick.Kick.{Kick}
@@ -14,10 +14,12 @@ use Rattle.psci_messages.specs.declared.start.Cause.TheVariants as causes
 use Rattle.psci_messages.specs.declared.start.Start.{Start}
 use Rattle.psci_port.specs.Port.{Arms, Port, Rises, Rouses, Row, Sleeps, Stands, TakesUp}
 use Rattle.psci_port.specs.Port.{Turns, Wakes, row_by, stage_at, step, taking_up as takes}
-use Rattle.psci_port.specs.Port.{stopping, woken, words}
+use Rattle.psci_port.specs.Port.{started, stopping, woken, words}
 use Rattle.psci_port.specs.Rules.{HasLock, LacksLock, May}
 use Rattle.psci_port.specs.Stages as stages
-use Rattle.psci_port.specs.Stages.{Stage, has_stopped, looks, may_hold, risen, stage_in}
+use Rattle.psci_port.specs.Stages.{Stage, has_stopped, is_started, looks, roused_at, stage_in}
+use Rattle.psci_port.specs.Stages.{started_at}
+use Rattle.psci_port.specs.Waiting.{waits}
 use Rattle.psci_port.proofs.Keeping.{IsKept, looks_apart}
 use Rattle.psci_port.proofs.Own.{open_last, open_moves, open_new}
 use Rattle.psci_enter.specs.declared.order.Look.{Look}
@@ -29,7 +31,8 @@ use Rattle.psci_enter.specs.declared.post.Post.TheVariants.{Armed, Woken}
 use Rattle.psci_enter.specs.declared.side.FirmwareSide.{FirmwareSide}
 use Rattle.psci_enter.specs.Side.{at, entering_by, found, heard, is_suspended, may_look}
 use Rattle.psci_enter.specs.Side.{taking_up}
-use Rattle.psci_enter.specs.SideOf.{Fits, IsDoor, IsSideOf, core_of, is_started}
+use Rattle.psci_enter.specs.SideOf.{Fits, IsDoor, IsSideOf, core_of}
+use Rattle.psci_enter.specs.SideOf as answers
 
 -- What a look finds ------------------------------------------------------------------------------
 
@@ -51,9 +54,19 @@ enters_new s door pending = by (door.opened == s.used)
     by true false e = let n : 1 ≡ 0 = ap code e in absurd (omega (arith, n))
     by false u e = refl
 
--- where a core is that looks, and does not stand
+-- who looks at its door waits there, or is armed
+pub by_look : {A : Type 0} (post : Post) → may_look post ≡ true → (post ≡ Waiting → A)
+    → (post ≡ Armed → A) → A
+by_look Waiting may waiting armed = waiting refl
+by_look Armed may waiting armed = armed refl
+by_look (Entering s) may waiting armed = cc
+by_look Running may waiting armed = cc
+by_look Leaving may waiting armed = cc
+by_look Woken may waiting armed = cc
+
+-- a core that looks, and does not stand, was started
 at_door : (post : Post) (y : Stage) → may_look post ≡ true → Fits post y
-    → (has_stopped y ≡ true → ⊥) → y ≡ stages.AtDoor
+    → (has_stopped y ≡ true → ⊥) → is_started y ≡ true
 at_door Waiting stages.Standing may fits moves = absurd (moves refl)
 at_door Waiting stages.AtDoor may fits moves = refl
 at_door Waiting (stages.Entering s) may fits moves = absurd (false≢true fits)
@@ -66,7 +79,7 @@ at_door Running y may fits moves = absurd (false≢true may)
 at_door Leaving y may fits moves = absurd (false≢true may)
 at_door Armed y may fits moves = elim fits [
   | inl is ↦ absurd (moves (ap has_stopped is))
-  | inr is ↦ is
+  | inr is ↦ ap is_started is
 ]
 at_door Woken y may fits moves = absurd (false≢true may)
 
@@ -79,6 +92,16 @@ waits_at stages.Normal at = absurd (false≢true at)
 waits_at stages.Leaving at = absurd (false≢true at)
 waits_at stages.Armed at = absurd (false≢true at)
 waits_at stages.Woken at = absurd (false≢true at)
+
+-- and is armed once an interrupt has brought it back
+roused_fits : (y : Stage) → looks y ≡ true → Fits Armed (roused_at y)
+roused_fits stages.Standing at = inl refl
+roused_fits stages.AtDoor at = inr refl
+roused_fits (stages.Entering s) at = absurd (false≢true at)
+roused_fits stages.Normal at = absurd (false≢true at)
+roused_fits stages.Leaving at = absurd (false≢true at)
+roused_fits stages.Armed at = absurd (false≢true at)
+roused_fits stages.Woken at = absurd (false≢true at)
 
 pub row_same : (c : ℕ) (r q : Row) → cond (c == c) r q ≡ r
 row_same c r q = ap (λ t. cond t r q) (eq-eqb c c refl)
@@ -103,6 +126,9 @@ module _ (b : BoardValue) (p : Port) (s : FirmwareSide) (is : IsSideOf b s p) wh
   post_is : (post : Post) → s.post ≡ post → Fits post (stage_at p c)
   post_is post e = subst (λ x. Fits x (stage_at p c)) e is.post
 
+  pub woken_at : s.post ≡ Woken → stage_at p c ≡ stages.Woken
+  woken_at post = post_is Woken post
+
   -- It takes its start up ------------------------------------------------------------------------
 
   entering_side : (q : Port) (t : FirmwareSide) (o : Option Start) (r : Row) → core_of t ≡ c
@@ -115,21 +141,21 @@ module _ (b : BoardValue) (p : Port) (s : FirmwareSide) (is : IsSideOf b s p) wh
 
   module _ (kept : IsKept p) where
     pub takes_up : (door : Door) (pending : Bool) → IsDoor p c door → row.held ≡ false
-        → may_look s.post ≡ true → found s door pending ≡ look.Enter
+        → may_look s.post ≡ true → LacksLock p c → found s door pending ≡ look.Enter
         → (May b p (TakesUp c) × IsSideOf b (taking_up door s) (step b p (TakesUp c)))
         × ((door.start ≡ last_start p.values c)
         × ((door.opened ≡ p.values.starts c) × (s.used < door.opened)))
     unfolding step
-    takes_up door pending reads free may finds =
+    takes_up door pending reads free may lacks finds =
         let new : (row.opened == row.used) ≡ false =
         ap (λ n. n == row.used) (sym reads.opened) ∙ ap (λ n. door.opened == n) (sym is.used)
         ∙ enters_new s door pending finds in
-        let there : stage_at p c ≡ stages.AtDoor =
+        let there : is_started (stage_at p c) ≡ true =
         at_door s.post (stage_at p c) may is.post (open_moves _ _ row (kept.rows c) new) in
         let last = open_last _ _ row (kept.rows c) free new in
         let more = open_new _ _ row (kept.rows c) free new in (
           (
-            (ap looks there, free, new),
+            (there, free, new, lacks),
             entering_side (step b p (TakesUp c)) (record s { used = door.opened }) door.start
                 (takes row) refl (row_same c (takes row) row) reads.opened
                 (ap stage_in (sym reads.start)),
@@ -169,12 +195,26 @@ module _ (b : BoardValue) (p : Port) (s : FirmwareSide) (is : IsSideOf b s p) wh
     ]
 
     pub rests_armed : s.post ≡ Armed
-        → (stage_at p c ≡ stages.AtDoor)
+        → (stage_at p c ≡ stages.Woken)
         ⊎ ((s.used ≡ p.values.starts c) × (HasLock p c → May b p (Rises c)))
     rests_armed post = elim (post_is Armed post) [
       | inl there ↦ inr (last_used (ap has_stopped there), λ has. (is.has, there, has))
       | inr there ↦ inl there
     ]
+
+    -- a wake-up of a core that was started waits
+    pub hears : (halted : ℕ) → stage_at p c ≡ stages.Woken
+        → (waits b p.values (words p) (asked.Wake s.core halted) ≡ true)
+        × IsSideOf b (at Armed s) p
+    hears halted there = (
+      ap not (not_true (words p c == p.values.starts c)
+          (λ e. false≢true (sym (ap has_stopped there) ∙ (kept.rows c).stands (eqb-true _ _ e)))),
+      own_side p (at Armed s) row refl refl is.used (inr there),
+    )
+      where
+        not_true : (t : Bool) → (t ≡ true → ⊥) → t ≡ false
+        not_true true never = absurd (never refl)
+        not_true false never = refl
 
   pub stands : s.post ≡ Leaving → LacksLock p c
       → May b p (Stands c) × IsSideOf b (at Waiting s) (step b p (Stands c))
@@ -194,13 +234,6 @@ module _ (b : BoardValue) (p : Port) (s : FirmwareSide) (is : IsSideOf b s p) wh
         (row_same c _ row) is.used (inl refl),
   )
 
-  -- at its door nothing of the port changes
-  pub waits_there : stage_at p c ≡ stages.AtDoor → IsSideOf b (at Waiting s) p
-  waits_there there = own_side p (at Waiting s) row refl refl is.used (ap looks there)
-
-  pub armed_there : stage_at p c ≡ stages.AtDoor → IsSideOf b (at Armed s) p
-  armed_there there = own_side p (at Armed s) row refl refl is.used (inr there)
-
   pub sleeps : stage_at p c ≡ stages.Armed → LacksLock p c
       → May b p (Sleeps c) × IsSideOf b (at Waiting s) (step b p (Sleeps c))
   unfolding step
@@ -210,20 +243,20 @@ module _ (b : BoardValue) (p : Port) (s : FirmwareSide) (is : IsSideOf b s p) wh
         (row_same c _ row) is.used refl,
   )
 
-  pub rouses : stage_at p c ≡ stages.Standing
+  pub rouses : s.post ≡ Waiting
       → May b p (Rouses c) × IsSideOf b (at Armed s) (step b p (Rouses c))
   unfolding step
-  rouses there = (
-    (is.has, there),
-    own_side (step b p (Rouses c)) (at Armed s) (record row { stage = stages.Armed }) refl
-        (row_same c _ row) is.used (inl refl),
+  rouses post = (
+    (is.has, post_is Waiting post),
+    own_side (step b p (Rouses c)) (at Armed s) (record row { stage = roused_at row.stage }) refl
+        (row_same c _ row) is.used (roused_fits row.stage (post_is Waiting post)),
   )
 
-  pub turns : s.post ≡ Woken → LacksLock p c
+  pub turns : stage_at p c ≡ stages.Woken → LacksLock p c
       → May b p (Turns c) × IsSideOf b (at Waiting s) (step b p (Turns c))
   unfolding step
-  turns post lacks = (
-    (post_is Woken post, lacks),
+  turns there lacks = (
+    (there, lacks),
     own_side (step b p (Turns c)) (at Waiting s) (record row { stage = stages.AtDoor }) refl
         (row_same c _ row) is.used refl,
   )
@@ -231,37 +264,33 @@ module _ (b : BoardValue) (p : Port) (s : FirmwareSide) (is : IsSideOf b s p) wh
   -- It wakes itself ------------------------------------------------------------------------------
 
   kicked : (kick : Kick) → row.stage ≡ stages.Armed
-      → Fits (heard (is_started (replies.Kick kick)))
-      (risen (row_by c (kick_effect c causes.Wake kick) row).stage)
+      → Fits (heard (answers.is_started (replies.Kick kick)))
+      (row_by c (kick_effect c causes.Wake kick) row).stage
   kicked (kicks.Started start) there = by (c == c) (eq-eqb c c refl)
     where
-      by : (t : Bool) → t ≡ true
-          → risen (cond t (record row { stage = stages.AtDoor; begun = None; held = row.held })
-          row).stage ≡ stages.Woken
-      by true e = refl
+      by : (t : Bool) → t ≡ true → (cond t (started causes.Wake row) row).stage ≡ stages.Woken
+      by true e = ap started_at there
       by false e = absurd (false≢true e)
-  kicked kicks.Ignored there = inl (ap risen there)
+  kicked kicks.Ignored there = inl there
 
   kicked_used : (kick : Kick) → (row_by c (kick_effect c causes.Wake kick) row).used ≡ row.used
   kicked_used (kicks.Started start) = by (c == c)
     where
       by : (t : Bool)
-          → (cond t (record row { stage = stages.AtDoor; begun = None; held = row.held })
-          row).used ≡ row.used
+          → (cond t (started causes.Wake row) row).used ≡ row.used
       by true = refl
       by false = refl
   kicked_used kicks.Ignored = refl
 
   pub rises : stage_at p c ≡ stages.Armed → HasLock p c
       → May b p (Rises c)
-      × IsSideOf b (at (heard (is_started (reply b p.values (asked.Wake s.core (words p c))))) s)
-      (step b p (Rises c))
+      × IsSideOf b (at (heard (answers.is_started
+      (reply b p.values (asked.Wake s.core (words p c))))) s) (step b p (Rises c))
   unfolding step reply effect_of
   rises there has = (
     (is.has, there, has),
-    own_side (step b p (Rises c)) (at (heard (is_started (replies.Kick kick))) s)
-        (record ((woken b p c).row c) { stage = risen (stage_at (woken b p c) c) }) refl
-        (row_same c _ _) (is.used ∙ sym (kicked_used kick)) (kicked kick there),
+    own_side (step b p (Rises c)) (at (heard (answers.is_started (replies.Kick kick))) s)
+        ((woken b p c).row c) refl refl (is.used ∙ sym (kicked_used kick)) (kicked kick there),
   )
     where
       kick : Kick

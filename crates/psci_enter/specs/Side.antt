@@ -2,6 +2,7 @@
 use Rattle.std.specs.Prelude.{◌≡◌, ℕ, Bool, true, false, not, ◌==◌, ◌&&◌, if◌then◌else◌}
 use Rattle.std.specs.Prelude.{Option, None, Some}
 use Rattle.psci_board.specs.declared.node.Core.{Core}
+use Rattle.psci_messages.specs.Message.{MessageValue}
 use Rattle.psci_messages.specs.declared.start.Cause.TheVariants as causes
 use Rattle.psci_messages.specs.declared.start.Start.{Start}
 use Rattle.psci_fw.specs.Seen.{FirmwareValue, seen}
@@ -87,10 +88,14 @@ post_after acts.Stop = Leaving
 post_after (acts.Enter address context) = Running
 post_after acts.Resume = Running
 
+-- what an outcome leaves, by whether the call suspends
+abbrev pub told : Bool → Act → Option MessageValue → FirmwareSide → FirmwareSide
+told suspended act sent s =
+    record s { post = post_after act; stop = stop_by suspended sent }
+
 -- what a reply leaves, by whether the call suspends
 abbrev pub replied : Bool → FwReply → FirmwareSide → FirmwareSide
-replied suspended (replies.Out o) s =
-    record s { post = post_after o.act; stop = stop_by suspended o.message }
+replied suspended (replies.Out o) s = told suspended o.act o.message s
 replied suspended (replies.Taken taken) s = s
 replied suspended (replies.Fault fault) s = s
 

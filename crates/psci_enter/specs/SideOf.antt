@@ -21,13 +21,14 @@ use Rattle.psci_enter.specs.declared.post.Post.TheVariants.{Waiting, Entering, R
 use Rattle.psci_enter.specs.declared.post.Post.TheVariants.{Armed, Woken}
 use Rattle.psci_enter.specs.declared.side.FirmwareSide.{FirmwareSide}
 
--- where a core is whose monitor is at this post: one that looks may have been started meanwhile
+-- where a core is whose monitor is at this post: one that waits or is armed may have been started
+-- meanwhile
 abbrev pub Fits : Post → Stage → Type 0
 Fits Waiting y = looks y ≡ true
 Fits (Entering s) y = y ≡ stages.Entering s
 Fits Running y = y ≡ stages.Normal
 Fits Leaving y = y ≡ stages.Leaving
-Fits Armed y = (y ≡ stages.Armed) ⊎ (y ≡ stages.AtDoor)
+Fits Armed y = (y ≡ stages.Armed) ⊎ (y ≡ stages.Woken)
 Fits Woken y = y ≡ stages.Woken
 
 -- the row of a side's core

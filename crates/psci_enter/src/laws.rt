@@ -34,6 +34,7 @@ ghost use Rattle.psci_port.specs.Port.{Resets, Restarts, Rises, Rouses, Sleeps, 
 ghost use Rattle.psci_port.specs.Port.{TakesUp, Turns, Wakes, cold, stage_at, state, words};
 ghost use Rattle.psci_port.specs.Rules.{AreTrue, HasLock, IsPortRun, IsTrue, LacksLock, May};
 ghost use Rattle.psci_port.specs.Stages as stages;
+ghost use Rattle.psci_port.specs.Waiting.{waits};
 ghost use Rattle.psci_world_spec.specs.Histories.{acks, sent};
 ghost use Rattle.psci_world_spec.specs.Legal.{said_of};
 ghost use Rattle.psci_world_spec.specs.Lists.{indexed};
@@ -127,7 +128,8 @@ pub fn law_stands()
     ensures takes_up { (b : BoardValue) (acts : List Act) (s : FirmwareSide) (door : Door)
         (pending : Bool) → IsPortRun b acts → IsSideOf b s (state b acts)
         → IsDoor (state b acts) (core_of s) door → ((state b acts).row (core_of s)).held ≡ false
-        → may_look s.post ≡ true → found s door pending ≡ look.Enter
+        → may_look s.post ≡ true → (s.post ≡ Armed → LacksLock (state b acts) (core_of s))
+        → found s door pending ≡ look.Enter
         → IsRightly b acts (looked look.Enter door s) (TakesUp (core_of s))
         × (door.start ≡ last_start (state b acts).values (core_of s))
         × (door.opened ≡ (state b acts).values.starts (core_of s)) × (s.used < door.opened) }
@@ -140,7 +142,7 @@ pub fn law_stands()
         × May b (state b acts) (Wakes (core_of s))) }
     ensures armed { (b : BoardValue) (acts : List Act) (s : FirmwareSide) → IsPortRun b acts
         → IsSideOf b s (state b acts) → s.post ≡ Armed
-        → (stage_at (state b acts) (core_of s) ≡ stages.AtDoor)
+        → (stage_at (state b acts) (core_of s) ≡ stages.Woken)
         ⊎ ((s.used ≡ (state b acts).values.starts (core_of s))
         × (HasLock (state b acts) (core_of s) → May b (state b acts) (Rises (core_of s)))) }
     // It holds no lock where it looks at its door, unless it is armed.
@@ -155,16 +157,20 @@ pub fn law_stands()
         → IsRightly b acts (at Armed s) (Arms (core_of s)) }
     ensures sleeps { (b : BoardValue) (acts : List Act) (s : FirmwareSide)
         → IsSideOf b s (state b acts) → s.post ≡ Armed
-        → (stage_at (state b acts) (core_of s) ≡ stages.AtDoor
-        → IsSideOf b (at Waiting s) (state b acts))
+        → (stage_at (state b acts) (core_of s) ≡ stages.Woken → LacksLock (state b acts) (core_of s)
+        → IsRightly b acts (at Waiting s) (Turns (core_of s)))
         × (stage_at (state b acts) (core_of s) ≡ stages.Armed → LacksLock (state b acts) (core_of s)
         → IsRightly b acts (at Waiting s) (Sleeps (core_of s))) }
     ensures rouses { (b : BoardValue) (acts : List Act) (s : FirmwareSide)
         → IsSideOf b s (state b acts) → s.post ≡ Waiting
-        → (stage_at (state b acts) (core_of s) ≡ stages.AtDoor
-        → IsSideOf b (at Armed s) (state b acts))
-        × (stage_at (state b acts) (core_of s) ≡ stages.Standing
-        → IsRightly b acts (at Armed s) (Rouses (core_of s))) }
+        → IsRightly b acts (at Armed s) (Rouses (core_of s)) }
+    // One that was started by others hears of no wake-up, which waits: it is armed as before.
+    ensures hears { (b : BoardValue) (acts : List Act) (s : FirmwareSide) → IsPortRun b acts
+        → IsSideOf b s (state b acts) → s.post ≡ Armed
+        → stage_at (state b acts) (core_of s) ≡ stages.Woken
+        → let call = asked.Wake s.core (words (state b acts) (core_of s)) in
+        (waits b (state b acts).values (words (state b acts)) call ≡ true)
+        × IsSideOf b (at (heard false) s) (state b acts) }
     ensures rises { (b : BoardValue) (acts : List Act) (s : FirmwareSide)
         → IsSideOf b s (state b acts) → s.post ≡ Armed
         → stage_at (state b acts) (core_of s) ≡ stages.Armed → HasLock (state b acts) (core_of s)

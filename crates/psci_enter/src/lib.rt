@@ -13,6 +13,7 @@ mod order;
 mod ordering;
 mod post;
 mod side;
+mod told;
 
 pub use again::Reminder;
 pub use laws::{law_firmware, law_others, law_stands};

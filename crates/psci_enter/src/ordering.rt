@@ -62,7 +62,7 @@ fn called_next(cause: Cause, regs: Regs, act: Act, message: Option<&Message>) ->
 }
 
 /// What a core does next that has entered.
-fn entered_next(cause: Cause, act: Act, message: Option<&Message>) -> Next
+pub(crate) fn entered_next(cause: Cause, act: Act, message: Option<&Message>) -> Next
     ensures { result ≡ entered_next cause (option_map (λ message. message.now) message.entry) act }
 {
     match act {
@@ -74,7 +74,7 @@ fn entered_next(cause: Cause, act: Act, message: Option<&Message>) -> Next
 }
 
 /// It enters the normal world.
-fn entry(cause: Cause, address: u64, context: u64) -> Next
+pub(crate) fn entry(cause: Cause, address: u64, context: u64) -> Next
     ensures { result ≡ entry cause address context }
 {
     Next::Enter(Entry {

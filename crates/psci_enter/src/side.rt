@@ -23,16 +23,18 @@ use psci_messages::Start;
 /// hand, the others without it.
 #[derive(Clone, Copy, Debug, PartialEq, Eq)]
 pub struct FirmwareSide {
-    pub(crate) core: Core,
-    pub(crate) post: Post,
+    /// The core.
+    pub core: Core,
+    /// Where the core's monitor is.
+    pub post: Post,
     /// The number of the start that the core took up last, 0 in a new life.
-    pub(crate) used: u32,
+    pub used: u32,
     /// The start in whose stop it told of a wake-up.
-    pub(crate) told: u32,
+    pub told: u32,
     /// Why it was started last.
-    pub(crate) cause: Cause,
+    pub cause: Cause,
     /// How it stands, where it does.
-    pub(crate) stop: Stop,
+    pub stop: Stop,
 }
 
 impl FirmwareSide {

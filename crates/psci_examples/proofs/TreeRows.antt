@@ -2,14 +2,13 @@
 -- tree: two clusters of two cores.
 use Rattle.std.proofs.Common.{ℕ, ◌≤◌, List, [], ◌∷◌, refl, arith}
 use Rattle.std.specs.Prelude.{length}
-use Rattle.psci_tree.specs.declared.domain.Domain.{Domain}
 use Rattle.psci_tree.specs.declared.kept.Kept.{Kept}
 use Rattle.psci_tree.specs.declared.way.Way.{Way}
 use Rattle.psci_tree.specs.Changes.{made_pending, start_of_life, started, suspended}
-use Rattle.psci_tree.specs.Kept.{IsPart, IsRow}
+use Rattle.psci_tree.specs.Kept.{HasRows, IsPart}
 use Rattle.psci_tree.specs.Recount.{TreeValue, known, low}
 use Rattle.psci_tree.specs.Standing.{on_path}
-use Rattle.psci_tree.specs.Way.{AreRows, LeadsDown, LeadsTo}
+use Rattle.psci_tree.specs.Way.{AreRows, LeadsTo}
 use Rattle.psci_board.proofs.Tables.{◌⇒◌, Gives}
 use Rattle.psci_examples.proofs.Apart.{apart_by, itself, never_less}
 
@@ -60,9 +59,12 @@ not_part = (
   λ is. let no : 2 ≤ 1 = is.off in omega (arith, no),
 )
 
--- a row is one of the tree, and has a domain for each child
-no_row : (row : List Domain) → ¬ (IsRow levels 2 row) × ¬ (IsRow levels 0 [])
-no_row row = (λ is. never_less 2 is.level, λ is. apart_by itself is.children refl)
+-- a row is kept for each level above the cores, and has a place for each domain
+no_rows : ¬ (HasRows levels []) × ¬ (HasRows levels ([] ∷ [] ∷ []))
+no_rows = (
+  λ are. apart_by itself are.height refl,
+  λ are. apart_by itself (are.domains 1 (omega arith) (omega arith)) refl,
+)
 
 -- Ways and rows ---------------------------------------------------------------------------------
 
@@ -70,12 +72,10 @@ abbrev four : List (List ℕ)
 four = (1 ∷ []) ∷ (1 ∷ []) ∷ (1 ∷ []) ∷ (1 ∷ []) ∷ []
 
 -- to no core, and in too high a tree
-no_way : (root : Domain) (w : Way) → ¬ (LeadsTo levels 4 w) × ¬ (LeadsTo four 0 w)
-    × ¬ (LeadsDown levels root 4 w)
-no_way root w = (
+no_way : (w : Way) → ¬ (LeadsTo levels 4 w) × ¬ (LeadsTo four 0 w)
+no_way w = (
   λ leads. never_less 4 leads.core,
   λ leads. let no : 4 ≤ 3 = leads.high in omega (arith, no),
-  λ leads. never_less 4 leads.core,
 )
 
 abbrev rows : ℕ → List (List ℕ)

@@ -18,6 +18,8 @@ use Rattle.psci_ctl.proofs.row.CoreRow.TheSendSync as controller_row
 use Rattle.psci_ctl.specs.contracts.controller.Controller as Controller
 use Rattle.psci_fw.specs.contracts.firmware.Firmware as Firmware
 use Rattle.psci_fw_state.proofs.row.CoreRow.TheSendSync as row
+use Rattle.psci_guest.specs.contracts.guest.GuestPower as Power
+use Rattle.psci_guest.specs.contracts.pair.Pair as Pair
 use Rattle.psci_messages.proofs.slots.Slots.TheSendSync as slots
 use Rattle.psci_platform.specs.contracts.description.Description as Description
 use Rattle.psci_platform.specs.contracts.platform.Platform as Platform
@@ -25,9 +27,9 @@ use Rattle.psci_status.specs.contracts.polled.PolledFirmware as Polled
 use Rattle.psci_status.proofs.seats.Reader.TheSendSync as reader
 use Rattle.psci_status.proofs.seats.StatusWords.TheSendSync as words
 use Rattle.psci_status.proofs.seats.Writer.TheSendSync as writer
-use Rattle.psci_tree.proofs.domain.Domain.TheLaws.TheKnot as knot
 use Rattle.psci_ffi.specs.Slots.{owns_kept}
 use Rattle.psci_ffi.specs.contracts.common.Common as Common
+use Rattle.psci_ffi.specs.contracts.guest.Guest as Guest
 use Rattle.psci_ffi.specs.contracts.held.Held as Held
 use Rattle.psci_ffi.specs.contracts.watch.Watch as Watch
 use Rattle.psci_ffi.proofs.SlotForm.{Form, S, X, slot}
@@ -38,7 +40,6 @@ firmware : IsSend Firmware.the_row
 firmware = search (
   sendable,
   heap.crosses,
-  knot.crosses,
   board.the_send,
   slots.the_send,
   row.the_send,
@@ -82,6 +83,15 @@ controller = search (
   level.the_send,
   controller_row.the_send,
 ) depth 40 fits 20000
+
+pair : IsSend Pair.the_row
+pair = search (sendable, heap.crosses, firmware, controller) depth 40 fits 20000
+
+power : IsSend Power.the_row
+power = search (sendable, heap.crosses, pair) depth 40 fits 20000
+
+pub guest : IsSend Guest.the_row
+guest = search (sendable, heap.crosses, power, board.the_send, machine_send) depth 40 fits 20000
 
 -- Slots ---------------------------------------------------------------------------------------
 

@@ -1,26 +1,26 @@
 -- A struct without a fault gives a board, and what is said of one with a fault.
-use Rattle.std.proofs.Common.{◌≡◌, ℕ, suc, zero, ◌<◌, ◌≤◌, ◌^◌, ◌-◌, ◌%◌, Bool, true, false, cond}
+use Rattle.std.proofs.Common.{◌≡◌, ℕ, suc, zero, ◌<◌, ◌≤◌, true, false}
 use Rattle.std.proofs.Common.{List, [], ◌∷◌, length}
-use Rattle.std.proofs.Common.{take, map, sum, get_or, Option, Some, None, refl, ap, ◌∙◌}
+use Rattle.std.proofs.Common.{take, map, sum, get_or, Some, None, refl, ap, ◌∙◌}
 use Rattle.std.proofs.Common.{arith}
-use Rattle.std.specs.Prelude.{◌&&◌, not, nat_lt, nat_le, ◌==◌, Result, Ok, Err}
+use Rattle.std.specs.Prelude.{nat_le, Result, Ok, Err}
 use Rattle.std.specs.List.{list_any, list_all}
 use Rattle.std.proofs.lemmas.Bool.{and_parts, eqb-true, leb-true, ltb-true, not-false, or_parts}
 use Rattle.std.proofs.lemmas.Bool.Decides.{nat_tests}
 use Rattle.std.proofs.lemmas.List.{length-map, length-take}
 use Rattle.psci_board.specs.psci_abi.declared.format.Format.{Format}
-use Rattle.psci_board.specs.declared.limits.TheConstants.{MOST_CORES, MOST_LIVES}
-use Rattle.psci_board.specs.Board.{BoardValue, IsBoard, IsTree, is_in_some, size_below}
+use Rattle.psci_board.specs.declared.limits.TheConstants.{MOST_CORES}
+use Rattle.psci_board.specs.Board.{BoardValue, IsBoard, IsTree, size_below}
 use Rattle.psci_board.specs.declared.fault.BoardFault.{BoardFault}
-use Rattle.psci_board.specs.declared.fault.BoardFault.TheVariants.{Uneven, TooWide, TooManyCores}
-use Rattle.psci_board.specs.declared.fault.BoardFault.TheVariants.{BadRange, BadBoot, BadLimit}
-use Rattle.psci_board.specs.declared.fault.BoardFault.TheVariants.{Grammar, Memory}
-use Rattle.psci_board.specs.Verdict.{Answers, is_limit, is_out_of_width}
-use Rattle.psci_board.proofs.KeptTree.{pass_width, within}
+use Rattle.psci_board.specs.declared.fault.BoardFault.TheVariants.{Grammar}
+use Rattle.psci_board.specs.Draft.{first_fault}
+use Rattle.psci_board.specs.Verdict.{Answers, is_out_of_width}
+use Rattle.psci_board.proofs.FirstFault.{faulty, never_memory, without_fault}
+use Rattle.psci_board.proofs.KeptTree.{pass_width}
 use Rattle.psci_ffi.specs.declared.given.GivenBoard.{GivenBoard}
 use Rattle.psci_ffi.specs.declared.given.GivenLevel.{GivenLevel}
-use Rattle.psci_ffi.specs.Given.{board_given, board_of_given, fault_given, format_given, has_levels}
-use Rattle.psci_ffi.specs.Given.{has_bad_range, is_even, level_given, levels_given, ranges_given}
+use Rattle.psci_ffi.specs.Given.{board_given, board_of_given, draft_given, format_given, has_levels}
+use Rattle.psci_ffi.specs.Given.{is_even, level_given, levels_given}
 
 -- Levels ---------------------------------------------------------------------------------------
 
@@ -64,14 +64,6 @@ tree (v ∷ ws) e w n s =
 
 -- Boards ---------------------------------------------------------------------------------------
 
-passed : (b : Bool) (f : BoardFault) (y : Option BoardFault)
-    → cond b (Some f) y ≡ None → (b ≡ false) × (y ≡ None)
-passed true f y h = cc
-passed false f y h = (refl, h)
-
-limited : (most n : ℕ) → is_limit most n ≡ true → (0 < n) × (n ≤ most)
-limited most n h = (grind (arith, nat_tests), grind (arith, nat_tests))
-
 short : (g : GivenBoard) → g.height ≤ 3 → length (levels_given g) ≤ 3
 short g h =
     let a = length-map (take g.height g.levels) level_given in
@@ -79,32 +71,22 @@ short g h =
     omega (arith, a, b, h)
 
 -- what a struct without a fault gives
-pub is_board : (g : GivenBoard) (format : Format) → has_levels g ≡ true → fault_given g ≡ None
-    → IsBoard (board_given g format)
-unfolding fault_given
+pub is_board : (g : GivenBoard) (format : Format) → has_levels g ≡ true
+    → first_fault (draft_given g) ≡ None → IsBoard (board_given g format)
 is_board g format formed h =
-    let a = passed _ Uneven _ h in
-    let b = passed _ TooWide _ a.1 in
-    let c = passed _ TooManyCores _ b.1 in
-    let d = passed _ BadRange _ c.1 in
-    let e = passed _ BadBoot _ d.1 in
-    let f = passed _ BadLimit _ e.1 in
+    let p = without_fault (draft_given g) h in
     let outer = and_parts _ _ formed in
     let inner = and_parts _ _ outer.0 in
-    let limits = and_parts _ _ (not-false _ f.0) in
-    let starts = limited (2 ^ 32 - 1) g.starts limits.0 in
-    let lives = limited 65535 g.lives limits.1 in
     record {
-      tree = tree (levels_given g) (not-false _ a.0) b.0
-          (few_nodes (take g.height g.levels) outer.1)
-          (within MOST_CORES _ c.0);
+      tree = tree (levels_given g) (not-false _ p.even) p.narrow
+          (few_nodes (take g.height g.levels) outer.1) p.few;
       low = ltb-true 0 _ inner.0;
       high = short g (leb-true g.height 3 inner.1);
-      boot = not-false _ e.0;
-      some_starts = starts.0;
-      starts = omega (arith, starts.1);
-      some_lives = lives.0;
-      lives = lives.1;
+      boot = p.boot;
+      some_starts = p.some_starts;
+      starts = p.starts;
+      some_lives = p.some_lives;
+      lives = p.lives;
     }
 
 -- What is said --------------------------------------------------------------------------------
@@ -123,45 +105,23 @@ unfolding board_of_given
 without_format g h f = rw (h, f) refl
 
 with_fault : (g : GivenBoard) (format : Format) (fault : BoardFault) → has_levels g ≡ true
-    → format_given g.format ≡ Some format → fault_given g ≡ Some fault
+    → format_given g.format ≡ Some format → first_fault (draft_given g) ≡ Some fault
     → ◌≡◌ {A = Said} (board_of_given g) (Err fault)
 unfolding board_of_given
 with_fault g format fault h f e = rw (h, f, e) refl
 
--- what is said is not that memory lacks
-not_memory : (a b c d e f : Bool)
-    → cond a (Some Uneven) (cond b (Some TooWide) (cond c (Some TooManyCores)
-    (cond d (Some BadRange) (cond e (Some BadBoot) (cond f (Some BadLimit) None))))) ≡ Some Memory
-    → ⊥
-not_memory false false false false false false h = cc
-not_memory a b c d e f h = cc
-
-no_memory : (g : GivenBoard) → fault_given g ≡ Some Memory → ⊥
-unfolding fault_given
-no_memory g h =
-    not_memory (not (is_even (levels_given g)))
-    (list_any (λ w. list_any is_out_of_width w) (levels_given g))
-    (nat_lt MOST_CORES (size_below (levels_given g))) (has_bad_range g)
-    (not (g.boot % 4 == 0 && is_in_some (ranges_given g) g.boot))
-    (not (is_limit (2 ^ 32 - 1) g.starts && is_limit MOST_LIVES g.lives)) h
-
-by_fault : (fault : BoardFault) (said : Said) → (fault ≡ Memory → ⊥) → said ≡ Err fault
-    → Answers (Err fault) said
-by_fault Memory said p e = absurd (p refl)
-by_fault fault said p e = e
-
 pub bad_answer : (g : GivenBoard) (format : Format) (fault : BoardFault) → has_levels g ≡ true
-    → format_given g.format ≡ Some format → fault_given g ≡ Some fault
+    → format_given g.format ≡ Some format → first_fault (draft_given g) ≡ Some fault
     → Answers (Err fault) (board_of_given g)
 bad_answer g format fault h f e =
-    by_fault fault (board_of_given g) (λ m. no_memory g (e ∙ ap Some m))
+    faulty fault (board_of_given g) (λ m. never_memory (draft_given g) (e ∙ ap Some m))
     (with_fault g format fault h f e)
 
-pub without_fault : (g : GivenBoard) (format : Format) → has_levels g ≡ true
-    → format_given g.format ≡ Some format → fault_given g ≡ None
+pub faultless : (g : GivenBoard) (format : Format) → has_levels g ≡ true
+    → format_given g.format ≡ Some format → first_fault (draft_given g) ≡ None
     → ◌≡◌ {A = Said} (board_of_given g) (Ok (board_given g format))
 unfolding board_of_given
-without_fault g format h f e = rw (h, f, e) refl
+faultless g format h f e = rw (h, f, e) refl
 
 -- what is answered of a struct, by its first fault
-pub ruleset answering = (without_levels, without_format, bad_answer, without_fault, is_board)
+pub ruleset answering = (without_levels, without_format, bad_answer, faultless, is_board)

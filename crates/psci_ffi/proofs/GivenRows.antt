@@ -11,7 +11,8 @@ use Rattle.psci_board.specs.declared.fault.BoardFault.TheVariants.{BadLimit}
 use Rattle.psci_ffi.specs.declared.given.GivenBoard.{GivenBoard}
 use Rattle.psci_ffi.specs.declared.given.GivenLevel.{GivenLevel}
 use Rattle.psci_ffi.specs.declared.given.GivenRange.{GivenRange}
-use Rattle.psci_ffi.specs.Given.{board_of_given, fault_given}
+use Rattle.psci_board.specs.Draft.{first_fault}
+use Rattle.psci_ffi.specs.Given.{board_of_given}
 use Rattle.psci_abi.proofs.Tables.{◌⇒◌, Gives}
 
 -- Structs ---------------------------------------------------------------------------------------
@@ -78,7 +79,7 @@ boards_given : Gives board_of_given
       levels = record { nodes = 2; children = 2 ∷ 2 ∷ 99 ∷ replicate 253 0 } ∷ level (2 ∷ [])
           ∷ record { nodes = 300; children = replicate 256 7 } ∷ [];
     } ⇒ Ok board ∷ [])
-unfolding board_of_given fault_given
+unfolding board_of_given first_fault
 boards_given = refl
 
 -- four ranges, the boot address in the third
@@ -89,7 +90,7 @@ four_ranges : ◌≡◌ {A = Said}
           ∷ record { start = 0x50000000; end = 0x50000004 } ∷ record { start = 8; end = 16 } ∷ [];
       boot = 0x50000000;
     }))
-unfolding board_of_given fault_given
+unfolding board_of_given first_fault
 four_ranges = refl
 
 -- Faults ----------------------------------------------------------------------------------------
@@ -160,5 +161,5 @@ faults_given : Gives (λ g. fault_in (board_of_given g))
     ⇒ (TooManyCores ∷ [])
     ∷ all_after given ⇒ (BadRange ∷ [])
     ∷ record given { boot = 1; starts = 0 } ⇒ (BadBoot ∷ []) ∷ [])
-unfolding board_of_given fault_given
+unfolding board_of_given first_fault
 faults_given = refl

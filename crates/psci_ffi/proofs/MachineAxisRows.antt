@@ -2,7 +2,7 @@
 -- all bits count and two states of one class, in either mode; and what an opening leaves in its
 -- place.
 use Rattle.std.proofs.Common.{◌≡◌, ◌∙◌, ℕ, Bool, List, [], ◌∷◌, ◌++◌, map, true, false, refl, ap}
-use Rattle.std.proofs.Common.{replicate, sym}
+use Rattle.std.proofs.Common.{arith, replicate, sym}
 use Rattle.std.specs.Prelude.{Option, Result, Ok, Err, None, Some}
 use Rattle.psci_abi.specs.declared.registers.Regs.{Regs}
 use Rattle.psci_abi.specs.declared.format.Format.TheVariants.{Original}
@@ -24,7 +24,10 @@ use Rattle.psci_ffi.specs.declared.machine_fault.MachineFault.{MachineFault}
 use Rattle.psci_ffi.specs.declared.machine_fault.MachineFault.TheVariants.{Board, Room}
 use Rattle.psci_ffi.specs.declared.machine_given.GivenMachine.{GivenMachine}
 use Rattle.psci_ffi.specs.declared.machine_given.GivenRow.{GivenRow}
-use Rattle.psci_ffi.specs.MachineOpening.{IsMade, IsNewWith, OpensMachine}
+use Rattle.psci_ffi.specs.declared.guest_turn.GuestTurn.{GuestTurn}
+use Rattle.psci_ffi.specs.GuestNamings.{GuestValue}
+use Rattle.psci_ffi.specs.GuestSlot.{KeptGuest}
+use Rattle.psci_ffi.specs.MachineOpening.{IsMade, IsNewWith, OpensGuest, OpensMachine}
 use Rattle.psci_ffi.specs.Machines.{machine_on}
 use Rattle.psci_ffi.specs.Namings.{asked_in, regs_in}
 use Rattle.psci_ffi.specs.Readers.{core_read, mpidr_read, place_read}
@@ -206,4 +209,26 @@ new_not : (p : PolledView) → (p.firmware.board.starts ≡ 9
 new_not p = (
   λ nine h. apart-by itself (sym nine ∙ ap (λ (b : BoardValue). b.starts) h.fresh.board) refl,
   λ h. h.machine,
+)
+
+-- a place for the power of a guest
+abbrev held : KeptGuest → ℕ
+held None = 0
+held (Some g) = 1
+
+-- the power of a guest is opened as a firmware is, and how its boot core entered is told
+guest_not : (g : GuestValue) (told : GuestTurn)
+    → ¬ (OpensGuest (Ok tt) (Ok paired_board) paired 1 None None told told)
+    × ¬ (OpensGuest (Err Room) (Ok paired_board) (record paired { many_rows = 65 }) 1 None (Some g)
+    told told)
+    × ¬ (OpensGuest (Ok tt) (Ok paired_board) paired 1 None (Some (record g { machine = None }))
+    told told)
+    × ¬ (OpensGuest (Ok tt) (Ok paired_board) paired 1 None (Some g) told
+    (record told { what = 19 }))
+unfolding checking
+guest_not g told = (
+  λ h. h,
+  λ h. apart-by held h.1.0 refl,
+  λ h. h.machine,
+  λ h. let no : 19 ≡ 0 = ap (λ (x : GuestTurn). x.what) h.fresh.shows in absurd (omega (arith, no)),
 )

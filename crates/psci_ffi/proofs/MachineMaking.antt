@@ -1,6 +1,6 @@
 -- What is made of a machine that C gives, and what an opening leaves, by what was said on the way.
 use Rattle.std.proofs.Common.{◌≡◌, ℕ, true, false, None, Some, refl, ap}
-use Rattle.std.specs.Prelude.{Result, Ok, Err, IsSomeAnd}
+use Rattle.std.specs.Prelude.{Result, Ok, Err}
 use Rattle.psci_board.specs.Board.{BoardValue}
 use Rattle.psci_board.specs.declared.fault.BoardFault.{BoardFault}
 use Rattle.psci_board.specs.declared.fault.BoardFault.TheVariants as boards
@@ -13,8 +13,7 @@ use Rattle.psci_platform.specs.Platforms.{PlatformValue}
 use Rattle.psci_ffi.specs.declared.machine_fault.MachineFault.{MachineFault}
 use Rattle.psci_ffi.specs.declared.machine_fault.MachineFault.TheVariants as faults
 use Rattle.psci_ffi.specs.declared.machine_given.GivenMachine.{GivenMachine}
-use Rattle.psci_ffi.specs.MachineOpening.{IsMade, IsNewWith, OpensMachine}
-use Rattle.psci_ffi.specs.Slot.{Kept}
+use Rattle.psci_ffi.specs.MachineOpening.{IsMade, OpensBy}
 use Rattle.psci_ffi.specs.Machines.{has_room, machine_by, machine_given}
 
 abbrev Said : Type 0
@@ -63,23 +62,23 @@ pub ruleset making = (bad_board, no_room, no_memory)
 
 -- Opening --------------------------------------------------------------------------------------
 
-pub failed : (said : Said) (fault : MachineFault) (g : GivenMachine) (boot : ℕ)
-    (old left : Kept) → IsMade (Err fault) said g boot → left ≡ old
-    → OpensMachine (Err fault) said g boot old left
-failed said (faults.Board boards.Memory) g boot old left is same = (is, same)
-failed said (faults.Board fault) g boot old left is same = (is, same)
-failed said fault g boot old left is same = (is, same)
+pub failed : (Made : PlatformValue → Type 0) (Same : Type 0) (said : Said) (fault : MachineFault)
+    (g : GivenMachine) (boot : ℕ) → IsMade (Err fault) said g boot → Same
+    → OpensBy Made Same (Err fault) said g boot
+failed Made Same said (faults.Board boards.Memory) g boot is same = (is, same)
+failed Made Same said (faults.Board fault) g boot is same = (is, same)
+failed Made Same said fault g boot is same = (is, same)
 
-pub opened : (said : Said) (m : PlatformValue) (g : GivenMachine) (boot : ℕ)
-    (old left : Kept) → IsMade (Ok m) said g boot → IsSomeAnd left (IsNewWith m)
-    → OpensMachine (Ok tt) said g boot old left
-opened said m g boot old left is same = rw is same
+pub opened : (Made : PlatformValue → Type 0) (Same : Type 0) (said : Said) (m : PlatformValue)
+    (g : GivenMachine) (boot : ℕ) → IsMade (Ok m) said g boot → Made m
+    → OpensBy Made Same (Ok tt) said g boot
+opened Made Same said m g boot is made = rw is made
 
-pub lacking : (said : Said) (m : PlatformValue) (g : GivenMachine) (boot : ℕ)
-    (old left : Kept) → IsMade (Ok m) said g boot → left ≡ old
-    → OpensMachine (Err (faults.Board boards.Memory)) said g boot old left
-lacking (Ok b) m g boot old left is same = (refl, same)
-lacking (Err fault) m g boot old left is same = absurd (cc)
+pub lacking : (Made : PlatformValue → Type 0) (Same : Type 0) (said : Said) (m : PlatformValue)
+    (g : GivenMachine) (boot : ℕ) → IsMade (Ok m) said g boot → Same
+    → OpensBy Made Same (Err (faults.Board boards.Memory)) said g boot
+lacking Made Same (Ok b) m g boot is same = (refl, same)
+lacking Made Same (Err fault) m g boot is same = absurd (cc)
 
 -- what an opening leaves
 pub ruleset opening = (failed, opened, lacking)

@@ -1,4 +1,4 @@
--- A slot, whatever it keeps, under short names. The three slots differ in what they box and in
+-- A slot, whatever it keeps, under short names. The four slots differ in what they box and in
 -- their names, so each proof about them is one over a `Form`, cited at the forms of `SlotForms`.
 use mathlib.Core.Path.{◌≡◌, refl, sym, subst}
 use mathlib.Core.List.{List, [], ◌∷◌}

@@ -50,6 +50,14 @@ refusal OldStart = 20
 abbrev pub no_cause : ℕ
 no_cause = 21
 
+-- no call wrote what a core's monitor is said to keep
+abbrev pub no_side : ℕ
+no_side = 48
+
+-- the core's monitor is elsewhere
+abbrev pub out_of_order : ℕ
+out_of_order = 49
+
 -- why a core was started, by a number
 abbrev pub cause_said : ℕ → Option Cause
 cause_said number =

@@ -3,13 +3,14 @@
 ghost use Rattle.std.specs.Prelude.{◌≡◌, option_map};
 ghost use Rattle.psci_fw.specs.Reactions.{reply_in};
 ghost use Rattle.psci_fw.specs.Seen.{seen};
+ghost use Rattle.psci_fw_spec.specs.declared.reply.FwReply.TheVariants.{Out};
 ghost use Rattle.psci_ffi.specs.Shown.{act_shown, frame_shown, no_frame, plain};
 ghost use Rattle.psci_ffi.specs.Shown.{refused, shown, with_asked};
 
 use crate::asked::{GivenAsked, nothing_asked};
 use crate::codes::refusal;
 use crate::held::Held;
-use psci_fw::{Act, FwFault, Reaction};
+use psci_fw::{Act, FwFault, Outcome, Reaction};
 use psci_link::{FRAME_LEN, Frame, encode, write_message};
 use psci_messages::Message;
 use std::mem::size_of;
@@ -111,6 +112,14 @@ pub fn write_answer(answer: &mut Answer, held: &Held, made: Result<Reaction, FwF
     }
 }
 
+/// Writes an outcome, as C sees it, beside what the call asks.
+pub fn write_outcome(answer: &mut Answer, outcome: &Outcome)
+    ensures { answer.new ≡ with_asked answer.old.asked (shown (Out outcome.now)) }
+{
+    write_act(answer, outcome.act);
+    write_frame(&mut answer.message, outcome.message.as_ref());
+}
+
 /// Writes what the core does next.
 fn write_act(answer: &mut Answer, act: Act)
     ensures { answer.new ≡ with_asked answer.old.asked (act_shown act answer.old.message) }
@@ -141,7 +150,7 @@ fn write_numbers(answer: &mut Answer, what: u32, code: i32, address: u64, contex
 }
 
 /// Writes the frame of a message, if there is one.
-fn write_frame(frame: &mut SomeFrame, message: Option<&Message>)
+pub fn write_frame(frame: &mut SomeFrame, message: Option<&Message>)
     ensures { frame.new ≡ frame_shown (option_map (λ message. message.now) message.entry) }
 {
     match message {

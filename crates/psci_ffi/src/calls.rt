@@ -12,6 +12,9 @@ use crate::place::Place;
 use psci_board::Core;
 use psci_fw::{Regs, Start};
 
+/// Stands for the calls of this file, so that the firmware's code is compiled in place in them.
+struct CoreCall;
+
 /// A secure monitor call of a core with these registers, in the words that the place was opened
 /// with: those of the board, or those of a machine. Beside the answer it is told which of the
 /// machine's states, or which reset of the vendor, the caller asked for.
@@ -39,7 +42,7 @@ pub extern "C" fn psci_smc(
     }
     let held = place.slot.held();
     let regs = held.called(Regs { x0, x1, x2, x3 }, &mut answer.asked);
-    let made = held.smc(Core { number: core }, regs);
+    let made = held.smc::<CoreCall>(Core { number: core }, regs);
     write_answer(answer, held, made);
 }
 
@@ -75,7 +78,7 @@ pub extern "C" fn psci_enter(
         number,
         cause,
     };
-    let made = held.enter(Core { number: core }, start);
+    let made = held.enter::<CoreCall>(Core { number: core }, start);
     answer.asked = nothing_asked();
     write_answer(answer, held, made);
 }

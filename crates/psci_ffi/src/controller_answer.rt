@@ -138,7 +138,7 @@ pub fn start_of(core: Core, start: Option<Start>) -> ControllerStart
 }
 
 /// The number of a cause: 0 of a boot, 1 of CPU_ON, 2 of a wake-up, 3 of a reset.
-fn cause_number(cause: Cause) -> u32
+pub fn cause_number(cause: Cause) -> u32
     ensures { result ≡ cause_number cause }
 {
     match cause {

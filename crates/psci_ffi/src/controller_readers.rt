@@ -81,7 +81,7 @@ pub extern "C" fn psci_ctl_depth(place: &mut ControllerPlace, level: u32, index:
 }
 
 /// The starts of a core, 0 of one that the board does not have.
-fn starts_of(controller: &Controller, core: u16) -> u32
+pub fn starts_of(controller: &Controller, core: u16) -> u32
     ensures { result ≡ starts_of controller.now core }
 {
     match controller.board().core(core) {
@@ -91,7 +91,7 @@ fn starts_of(controller: &Controller, core: u16) -> u32
 }
 
 /// The last start of a core, none of one that the board does not have.
-fn started_of(controller: &Controller, core: u16) -> Option<Start>
+pub fn started_of(controller: &Controller, core: u16) -> Option<Start>
     ensures { result ≡ started_of controller.now core }
 {
     let core = controller.board().core(core)?;
@@ -99,7 +99,7 @@ fn started_of(controller: &Controller, core: u16) -> Option<Start>
 }
 
 /// How deep a domain is, if the board has it and there is a life.
-fn depth_of(controller: &Controller, node: Node) -> u32
+pub fn depth_of(controller: &Controller, node: Node) -> u32
     ensures { result ≡ depth_said (has_node controller.now.board node) (seen controller.now).life
         ((seen controller.now).depth node.level node.place) }
 {

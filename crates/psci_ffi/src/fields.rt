@@ -115,7 +115,7 @@ fn ack_fields(ack: &Ack) -> Fields
 }
 
 /// The low half of a kind byte.
-fn kind_code(kind: Kind) -> u8
+pub fn kind_code(kind: Kind) -> u8
     ensures { result ≡ kind_code kind }
 {
     match kind {

@@ -6,7 +6,7 @@ ghost use Rattle.psci_board.specs.Verdict.{Answers};
 ghost use Rattle.psci_ffi.specs.Given.{board_given, board_of_given, level_given, range_given};
 
 use crate::given::{GivenBoard, GivenLevel, GivenRange};
-use crate::given_fault::{fault, has_levels};
+use crate::given_fault::{draft, has_levels};
 use crate::opening::keep;
 use psci_board::{AddressRange, Board, BoardFault, Format, Level, Memory};
 use std::alloc::Global;
@@ -22,7 +22,7 @@ pub fn read_given(alloc: Global, given: &GivenBoard) -> Result<Board, BoardFault
     let Some(format) = given.format() else {
         return Err(BoardFault::Grammar);
     };
-    match fault(given) {
+    match draft(given).first_fault() {
         Some(fault) => Err(fault),
         None => Ok(build(alloc, given, format)?),
     }

@@ -1,14 +1,13 @@
 //! What is wrong with a board that C gives.
 
-ghost use Rattle.std.specs.Prelude.{◌≡◌, ◌==◌, ◌&&◌, ◌%◌, ◌^◌, ◌-◌, map, nat_le};
+ghost use Rattle.std.specs.Prelude.{◌≡◌, map, nat_le};
 ghost use Rattle.std.specs.List.{list_all, list_any};
 ghost use Rattle.psci_board.specs.Board.{is_in_some, size_below};
-ghost use Rattle.psci_board.specs.Verdict.{is_limit, is_out_of_width};
-ghost use Rattle.psci_ffi.specs.Given.{fault_given, has_bad_range, has_levels, is_even};
-ghost use Rattle.psci_ffi.specs.Given.{level_given, range_given, ranges_given};
+ghost use Rattle.psci_board.specs.Verdict.{is_out_of_width};
+ghost use Rattle.psci_ffi.specs.Given.{draft_given, has_levels, is_even, level_given, range_given};
 
 use crate::given::{GivenBoard, GivenLevel, GivenRange};
-use psci_board::{BoardFault, MOST_CHILDREN, MOST_CORES, MOST_LEVELS, MOST_LIVES, MOST_RANGES};
+use psci_board::{BoardDraft, MOST_CHILDREN, MOST_CORES, MOST_LEVELS, MOST_RANGES};
 
 /// Whether there are one to three levels, none of more nodes than there is room for.
 pub fn has_levels(given: &GivenBoard) -> bool
@@ -25,26 +24,20 @@ fn have_room(levels: &[GivenLevel]) -> bool
     levels.iter().all(|level| level.nodes <= MOST_CORES as u16)
 }
 
-/// The first fault of a struct that has levels, in the order in which faults are looked for.
-#[tactic(auto, unfolding(crate::specs::Given::fault_given))]
-pub fn fault(given: &GivenBoard) -> Option<BoardFault>
-    ensures { result ≡ fault_given given.now }
+/// What decides whether a struct that has levels has a board.
+pub fn draft(given: &GivenBoard) -> BoardDraft
+    ensures { result ≡ draft_given given.now }
 {
     let levels = given.levels();
-    if !is_even(levels) {
-        Some(BoardFault::Uneven)
-    } else if is_too_wide(levels) {
-        Some(BoardFault::TooWide)
-    } else if size_below(levels) > MOST_CORES as u32 {
-        Some(BoardFault::TooManyCores)
-    } else if has_bad_range(given) {
-        Some(BoardFault::BadRange)
-    } else if !may_boot(given) {
-        Some(BoardFault::BadBoot)
-    } else if !has_limits(given) {
-        Some(BoardFault::BadLimit)
-    } else {
-        None
+    let ranges = given.ranges();
+    BoardDraft {
+        is_uneven: !is_even(levels),
+        is_too_wide: is_too_wide(levels),
+        cores: u64::from(size_below(levels)),
+        has_bad_range: given.many_ranges > MOST_RANGES as u32 || is_some_empty(ranges),
+        may_boot: given.boot % 4 == 0 && is_in_some(ranges, given.boot),
+        starts: u64::from(given.starts),
+        lives: u64::from(given.lives),
     }
 }
 
@@ -95,26 +88,14 @@ fn is_out_of_width(count: u16) -> bool
     count == 0 || count > MOST_CHILDREN as u16
 }
 
-/// Whether there are more than four ranges, or one holds no address.
-fn has_bad_range(given: &GivenBoard) -> bool
-    ensures { result ≡ has_bad_range given.now }
-{
-    given.many_ranges > MOST_RANGES as u32 || is_some_empty(given.ranges())
-}
-
 /// Whether a range holds no address.
 fn is_some_empty(ranges: &[GivenRange]) -> bool
-    ensures { result ≡ list_any (λ r. nat_le r.end r.start) ranges.now }
+    ensures { result ≡ list_any (λ r. nat_le r.end r.start) (map range_given ranges.now) }
 {
-    ranges.iter().any(|range| range.end <= range.start)
-}
-
-/// Whether the boot address may be entered.
-fn may_boot(given: &GivenBoard) -> bool
-    ensures { result
-        ≡ (given.now.boot % 4 == 0 && is_in_some (ranges_given given.now) given.now.boot) }
-{
-    given.boot % 4 == 0 && is_in_some(given.ranges(), given.boot)
+    match ranges {
+        [] => false,
+        [range, others @ ..] => range.end <= range.start || is_some_empty(others),
+    }
 }
 
 /// Whether a range holds the address.
@@ -127,12 +108,4 @@ fn is_in_some(ranges: &[GivenRange], address: u64) -> bool
             range.start <= address && address < range.end || is_in_some(others, address)
         }
     }
-}
-
-/// Whether both limits, of starts and of lives, are in range.
-fn has_limits(given: &GivenBoard) -> bool
-    ensures { result ≡ (is_limit (2 ^ 32 - 1) given.now.starts
-        && is_limit MOST_LIVES given.now.lives) }
-{
-    0 < given.starts && 0 < given.lives && given.lives <= MOST_LIVES
 }

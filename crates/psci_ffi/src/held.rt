@@ -87,8 +87,8 @@ impl Held {
         Box::into_inner(held).alone()
     }
 
-    /// `Firmware::smc_in_slot`.
-    pub fn smc(&mut self, core: Core, regs: Regs) -> Result<Reaction, FwFault>
+    /// `Firmware::smc_in_slot`. It is compiled once for each `A`, as that is.
+    pub fn smc<A>(&mut self, core: Core, regs: Regs) -> Result<Reaction, FwFault>
         ensures answer { let old = self.old.polled.firmware in
             let new = self.new.polled.firmware in
             reply_in new.board (seen new) result
@@ -97,7 +97,7 @@ impl Held {
         ensures refused { OnErr result (self.new ≡ self.old) }
     {
         let Held { common, polled } = self;
-        polled.smc_in_slot(&common.words, core, regs)
+        polled.smc_in_slot::<A>(&common.words, core, regs)
     }
 
     /// The registers of the firmware's call for one in the words of the place. What is asked beside
@@ -121,8 +121,8 @@ impl Held {
         }
     }
 
-    /// `Firmware::enter_in_slot`.
-    pub fn enter(&mut self, core: Core, start: Start) -> Result<Reaction, FwFault>
+    /// `Firmware::enter_in_slot`. It is compiled once for each `A`, as that is.
+    pub fn enter<A>(&mut self, core: Core, start: Start) -> Result<Reaction, FwFault>
         ensures answer { let old = self.old.polled.firmware in
             let new = self.new.polled.firmware in
             reply_in new.board (seen new) result
@@ -131,7 +131,7 @@ impl Held {
         ensures refused { OnErr result (self.new ≡ self.old) }
     {
         let Held { common, polled } = self;
-        polled.enter_in_slot(&common.words, core, start)
+        polled.enter_in_slot::<A>(&common.words, core, start)
     }
 
     /// What was just sent: the message in this slot, where it stands.

@@ -66,7 +66,7 @@ fn put(alloc: Global, place: &mut Place, machine: Platform) -> Result<(), Memory
 
 /// The machine, or the first fault.
 #[tactic(auto, using(crate::proofs::MachineMaking::making))]
-fn make(
+pub fn make(
     alloc: Global,
     board: &GivenBoard,
     given: &GivenMachine,

@@ -40,7 +40,7 @@ pub extern "C" fn psci_stop(place: &mut Place, core: u16, x0: u64, stop: &mut St
 }
 
 /// Writes the stop by which this message was sent, if one was.
-fn write_stop(stop: &mut Stopping, message: Option<&Message>, x0: u64)
+pub fn write_stop(stop: &mut Stopping, message: Option<&Message>, x0: u64)
     ensures { stop.new ≡ stop_sent (option_map (λ message. message.now) message.entry) x0 }
 {
     match message {
@@ -56,7 +56,7 @@ fn write_stop(stop: &mut Stopping, message: Option<&Message>, x0: u64)
 }
 
 /// The depths that some parts ask, from level 0 up.
-fn depths_of(parts: &[Part]) -> [u8; 4]
+pub fn depths_of(parts: &[Part]) -> [u8; 4]
     ensures { result ≡ depths_of parts.now }
 {
     [
@@ -78,7 +78,7 @@ fn depth_at(parts: &[Part], level: usize) -> u8
 }
 
 /// Whether a message takes domains down.
-fn is_down(kind: Kind) -> bool
+pub fn is_down(kind: Kind) -> bool
     ensures { result ≡ is_down kind }
 {
     matches!(kind, Kind::Down)

@@ -1,7 +1,11 @@
 mod Answered
 mod Called
 mod Fresh
+mod LifeRows
+mod Lives
+mod Opened
 mod Refused
 mod ReactionRows
+mod SavedRows
 mod SeenRows
 mod Stopping

@@ -18,3 +18,7 @@ is_some n e = grind (arith, nat_tests, e)
 pub first_fails : (s t : Bool) → (s || t) ≡ false → s ≡ false
 first_fails true t e = e
 first_fails false t e = refl
+
+pub second_fails : (s t : Bool) → (s || t) ≡ false → t ≡ false
+second_fails true t e = absurd (cc)
+second_fails false t e = e

@@ -1,6 +1,7 @@
 pub mod Calls
 pub mod Halts
 pub mod Reactions
+pub mod Saved
 pub mod Seen
 pub mod Suspending
 pub mod Ways

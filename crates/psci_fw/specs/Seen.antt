@@ -1,5 +1,5 @@
 -- What the firmware is seen as: the board, and the values that it keeps.
-use Rattle.std.specs.Prelude.{◌≡◌, ℕ, ◌==◌, Option, None, Some, if◌then◌else◌}
+use Rattle.std.specs.Prelude.{◌≡◌, ◌≤◌, ℕ, ◌==◌, Option, None, Some, if◌then◌else◌}
 use Rattle.psci_board.specs.Board.{BoardValue, IsBoard}
 use Rattle.psci_board.specs.declared.node.Node.{Node}
 use Rattle.psci_fw_spec.specs.declared.hw.Hw.{Hw}
@@ -23,12 +23,14 @@ seen f = values_in f
 pub record IsFresh (b : BoardValue) (v : Values) : Type 0 where
   pub same : v.life ≡ 0 → v ≡ start_of_life b 0
 
--- What holds of every firmware: it has a board, its values are such as it keeps on this board, and
--- before any core has entered they are those of the start of a life.
+-- What holds of every firmware: it has a board, its values are such as it keeps on this board,
+-- before any core has entered they are those of the start of a life, and the life is none beyond
+-- the board's last one.
 pub record IsFirmware (f : FirmwareValue) : Type 0 where
   pub board : IsBoard f.board
   pub values : AreValues f.board (seen f)
   pub fresh : IsFresh f.board (seen f)
+  pub lives : (seen f).life ≤ f.board.lives
 
 -- the life, None before any core has entered
 abbrev pub life_shown : ℕ → Option ℕ

@@ -81,13 +81,17 @@ pub fn enter<A>(state: &mut State, core: Core, start: Start) -> Reaction
 }
 
 /// This life begins, if it is another one than the firmware's. Before the first one there is
-/// nothing to put back.
+/// nothing to put back. Compiled into its callers: most entries are of the life that is.
+#[inline(always)]
 fn begin(state: &mut State, life: u32)
     requires { IsFresh state.old.board (values_in state.old) }
     ensures after { values_in state.new ≡ in_life state.old.board life (values_in state.old) }
     ensures board { state.new.board ≡ state.old.board }
 {
     law_fresh();
+    if state.life() == life {
+        return;
+    }
     if state.life() == 0 {
         state.set_life(life);
     } else {

@@ -38,7 +38,7 @@ ghost use Rattle.psci_fw.specs.Seen.{hw_shown, life_shown, seen, status_shown};
 ghost use Rattle.psci_fw_state.specs.Seen.{message_shown};
 
 use crate::entering::{check_start, enter};
-use crate::laws::law_fresh;
+use crate::laws::{law_fresh, law_lives};
 use crate::reaction::Reaction;
 use crate::smc::dispatch;
 use psci_fw_spec::law_invariant;
@@ -52,6 +52,7 @@ impl Firmware {
     {
         law_invariant();
         law_fresh();
+        law_lives();
         let state = State::new(alloc, board)?;
         Ok(Firmware { state })
     }
@@ -88,6 +89,7 @@ impl Firmware {
     {
         law_invariant();
         law_fresh();
+        law_lives();
         self.state.check_caller(core)?;
         Ok(dispatch::<A>(&mut self.state, core, regs))
     }
@@ -127,6 +129,7 @@ impl Firmware {
     {
         law_invariant();
         law_fresh();
+        law_lives();
         check_start(&self.state, core, start)?;
         Ok(enter::<A>(&mut self.state, core, start))
     }
@@ -146,7 +149,9 @@ impl Firmware {
     }
 
     /// Takes an acknowledgement of the power controller: used where its message is outstanding,
-    /// else old, and nothing changes.
+    /// else old, and nothing changes. Compiled into its callers, so that no acknowledgement is
+    /// written to memory.
+    #[inline(always)]
     #[tactic(auto, unfolding(psci_fw_spec::specs::After::after))]
     pub fn take(&mut self, ack: Ack) -> Taken
         ensures answer { (c : ℕ) → replies.Taken result
@@ -158,6 +163,7 @@ impl Firmware {
     {
         law_invariant();
         law_fresh();
+        law_lives();
         self.state.acknowledge(ack)
     }
 

@@ -1,7 +1,7 @@
-//! What holds of the claims of cores that stop, and of a firmware that no core has entered, for
-//! proofs. Each law is the contract of a function that does nothing.
+//! What holds of the claims of cores that stop, of a firmware that no core has entered, and of the
+//! life of each, for proofs. Each law is the contract of a function that does nothing.
 
-ghost use Rattle.std.specs.Prelude.{◌≡◌, ◌<◌, ◌&&◌, ℕ, List, None, Ok, false, not, true};
+ghost use Rattle.std.specs.Prelude.{◌≡◌, ◌<◌, ◌≤◌, ◌&&◌, ℕ, List, None, Ok, false, not, true};
 ghost use Rattle.psci_board.specs.Board.{BoardValue, IsBoard, cores, height, may_enter};
 ghost use Rattle.psci_messages.specs.declared.part.Part.{Part};
 ghost use Rattle.psci_state.specs.Ask.{deepest_of, is_deep};
@@ -78,6 +78,25 @@ pub fn law_fresh()
     // A core has entered before each acknowledgement that is used, since one has sent its message.
     ensures take { (b : BoardValue) (v : Values) (a : AckValue) → IsFresh b v
         → taken_by v a ≡ Used → IsFresh b (with_acknowledgement b a v) }
+{
+    law_caller();
+    law_enters();
+}
+
+/// The life of a firmware is none beyond the last one of its board.
+pub fn law_lives()
+    ensures first { (b : BoardValue) → (start_of_life b 0).life ≤ b.lives }
+    // A call changes no life.
+    ensures call { (b : BoardValue) (v : Values) (c : ℕ) (regs : Regs) (o : Outcome)
+        → v.life ≤ b.lives
+        → (change b (function_effect b c (request_of regs) o.act o.message) v).life ≤ b.lives }
+    // A start of a life beyond it is refused.
+    ensures enter { (b : BoardValue) (v : Values) (c : ℕ) (s : Start) (o : Outcome)
+        → enter_fault b v c s ≡ None
+        → (change b (enter_effect c s o.act o.message) v).life ≤ b.lives }
+    // An acknowledgement changes no life.
+    ensures take { (b : BoardValue) (v : Values) (a : AckValue) → v.life ≤ b.lives
+        → (with_acknowledgement b a v).life ≤ b.lives }
 {
     law_caller();
     law_enters();

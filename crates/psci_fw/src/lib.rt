@@ -9,6 +9,7 @@
 
 mod affinity;
 mod entering;
+mod fault;
 mod firmware;
 mod hw;
 mod laws;
@@ -16,10 +17,12 @@ mod mode;
 mod off;
 mod on;
 mod reaction;
+mod saving;
 mod smc;
 mod suspend;
 mod system;
 
+pub use fault::OpenFault;
 pub use firmware::Firmware;
 pub use psci_abi::{Code, Regs};
 pub use psci_board::law_sizes;
@@ -27,5 +30,7 @@ pub use psci_fw_spec::{
     Act, Cause, FwCall, FwFault, FwReply, Hw, Opening, Outcome, Start, Status, SuspendMode,
     law_caller, law_first_start, law_power_on, law_values,
 };
+pub use psci_fw_state::SavedFault;
 pub use psci_messages::Taken;
 pub use reaction::Reaction;
+pub use saving::{law_alike, law_saved};

@@ -16,7 +16,8 @@ use psci_fw_state::State;
 use psci_messages::{Kind, Parts};
 
 /// CPU_ON (DEN0022D): the core that `target` names is to be started, and will go on at the opening.
-pub fn cpu_on(state: &mut State, caller: Core, target: u64, opening: Opening) -> Reaction
+/// Compiled once for each `A`.
+pub fn cpu_on<A>(state: &mut State, caller: Core, target: u64, opening: Opening) -> Reaction
     requires { MayCall state.old caller.number }
     ensures answer { FunctionAnswered state.old.board (values_in state.old) caller.number
         (CpuOn target opening.address opening.context)

@@ -59,17 +59,17 @@ fn function<A>(state: &mut State, caller: Core, request: Request) -> Reaction
             state: word,
             entry,
             context,
-        } => cpu_suspend(state, caller, word, opening(entry, context)),
+        } => cpu_suspend::<A>(state, caller, word, opening(entry, context)),
         Request::CpuOff => cpu_off(state, caller),
         Request::CpuOn {
             target,
             entry,
             context,
-        } => cpu_on(state, caller, target, opening(entry, context)),
+        } => cpu_on::<A>(state, caller, target, opening(entry, context)),
         Request::SystemOff => system_off(state, caller),
         Request::SystemReset => system_reset(state, caller),
         Request::SystemSuspend { entry, context } => {
-            system_suspend(state, caller, opening(entry, context))
+            system_suspend::<A>(state, caller, opening(entry, context))
         }
         Request::SetSuspendMode { mode } => set_suspend_mode(state, caller, mode),
         Request::SystemReset2 { reset_type, .. } => { system_reset2(state, caller, reset_type) }

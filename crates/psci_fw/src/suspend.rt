@@ -24,8 +24,8 @@ use psci_state::Ask;
 
 /// CPU_SUSPEND (DEN0022D): the caller stops in this power state, until it is woken. Where it powers
 /// down it then goes on at the opening, else after its call. At the start limit it could never be
-/// woken, and goes on at once.
-pub fn cpu_suspend(state: &mut State, caller: Core, word: u32, opening: Opening) -> Reaction
+/// woken, and goes on at once. Compiled once for each `A`.
+pub fn cpu_suspend<A>(state: &mut State, caller: Core, word: u32, opening: Opening) -> Reaction
     requires { MayCall state.old caller.number }
     ensures answer { FunctionAnswered state.old.board (values_in state.old) caller.number
         (CpuSuspend word opening.address opening.context)

@@ -26,8 +26,8 @@ use psci_state::Ask;
 const SYSTEM_WARM_RESET: u32 = 0;
 
 /// SYSTEM_SUSPEND (DEN0022D): the caller is suspended with power-down of all levels, where every
-/// other core is OFF. It then goes on at the opening.
-pub fn system_suspend(state: &mut State, caller: Core, opening: Opening) -> Reaction
+/// other core is OFF. It then goes on at the opening. Compiled once for each `A`.
+pub fn system_suspend<A>(state: &mut State, caller: Core, opening: Opening) -> Reaction
     requires { MayCall state.old caller.number }
     ensures answer { FunctionAnswered state.old.board (values_in state.old) caller.number
         (requests.SystemSuspend opening.address opening.context)

@@ -83,7 +83,7 @@ off_but_boot b rows is first k = grind (arith, each_first b rows is first k)
 -- The values ------------------------------------------------------------------------------------
 
 -- the state of a core at the start of a life
-abbrev first_core : ℕ → CoreState
+abbrev pub first_core : ℕ → CoreState
 first_core c = cond (0 == c) (record { activity = activities.Active; known = 0 }) never_started
 
 first_known : (c : ℕ) → (first_core c).known ≡ 0

@@ -37,13 +37,6 @@ known_below b t u n cores levels =
     ap (λ (f : ℕ → ℕ). sum_by f (below_in u.levels n)) same
     ∙ ap (λ (ws : List (List ℕ)). sum_by (known_at t) (below_in ws n)) levels
 
--- which stays as it was while claims are confirmed
-pub known_stays : (b : BoardValue) (c : ℕ) (parts : List Part) (t u : TreeValue) (k : ℕ) (n : Node)
-    → IsConfirmed b c parts t u k → t.levels ≡ b.levels → known t n ≡ known u n
-known_stays b c parts t u k n so_far e =
-    known_below b t t n (λ j. refl) e
-    ∙ sym (known_below b t u n so_far.cores (so_far.levels ∙ e))
-
 -- one level more
 module _ (b : BoardValue) (c : ℕ) (parts : List Part) (t u w : TreeValue) (n : ℕ)
     (part : Option Part) (is : part ≡ slice_get parts n) (board : t.levels ≡ b.levels)

@@ -56,10 +56,6 @@ other_level x next now n k law l p ne = law l p ∙ (rw (ne_eqb n l ne) refl)
 abbrev pub IsLaid : BoardValue → ℕ → List Part → (ℕ → ℕ → ℕ) → TreeValue → ℕ → Type 0
 IsLaid b c parts before t n = IsDone before (granted_with b c parts before) (granted_at t) n
 
--- the node of this level and place
-abbrev pub node_at : ℕ → ℕ → Node
-node_at level place = record { level = level; place = place }
-
 -- the node of a level on a core's path, as the tree says it
 pub on_board : (b : BoardValue) (ws : List (List ℕ)) (core level : ℕ) (node : Node)
     → node ≡ on_path_of ws core level → ws ≡ b.levels

@@ -100,7 +100,7 @@ tree = record {
 }
 
 -- a Start of core 1, and a Reset by core 2
-abbrev start : MessageValue
+abbrev pub start : MessageValue
 start =
     record { kind = kinds.Start; core = record { number = 1 }; life = 2; number = 0; parts = [] }
 

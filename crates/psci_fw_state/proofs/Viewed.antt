@@ -20,15 +20,15 @@ use Rattle.psci_fw_spec.specs.Phases.{activity_of}
 use Rattle.psci_fw_spec.specs.Views.{view}
 use Rattle.psci_fw_state.specs.Seen.{values_in}
 
-back : (s : Status) (a : Activity) → activity_of (phase_by s a) ≡ a
-back s a = grind arith
+pub active_by : (s : Status) (a : Activity) → activity_of (phase_by s a) ≡ a
+active_by s a = grind arith
 
 pub viewed : (s : StateValue) → IsState s → view_of s.tree ≡ view s.board (values_in s)
 unfolding view values_in
 viewed s is =
     let at : (c : ℕ) → (state_at s.tree c).activity
     ≡ activity_of (phase_by (row_at s.rows c).status (state_at s.tree c).activity) =
-    λ c. sym (back (row_at s.rows c).status (state_at s.tree c).activity) in
+    λ c. sym (active_by (row_at s.rows c).status (state_at s.tree c).activity) in
     λ i. record {
       ask = λ c level.
           if nat_le level (length (is.levels i)) then asks (at c i) level else 0;

@@ -1,7 +1,10 @@
 pub mod Claims
 pub mod Confirming
 pub mod Counts
+pub mod New
 pub mod Rows
+pub mod Saved
 pub mod Seen
+pub mod Sound
 pub mod Trees
 pub mod Wishes

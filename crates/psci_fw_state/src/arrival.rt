@@ -18,7 +18,9 @@ use psci_messages::law_slots;
 use psci_tree::{Tree, law_confirmed, law_cores, law_granted, law_start_of_life};
 
 impl State {
-    /// The firmware is in this life: all is as at its start, if it is a new one.
+    /// The firmware is in this life: all is as at its start, if it is a new one. It has a frame of
+    /// its own, since few entries begin a life.
+    #[inline(never)]
     #[tactic(auto, unfolding(crate::specs::Seen::values_in))]
     pub fn begin_life(&mut self, life: u32)
         ensures after { values_in self.new ≡ in_life self.old.board life (values_in self.old) }
@@ -49,6 +51,8 @@ impl State {
     }
 
     /// A core has entered by this start of the firmware's life, and goes on: it is ON and runs.
+    /// Compiled in place: it is what most entries do.
+    #[inline(always)]
     #[tactic(auto, unfolding(crate::specs::Seen::values_in))]
     pub fn arrive_running(&mut self, core: Core, start: Start)
         requires inside { core.number < cores self.old.board }

@@ -133,7 +133,9 @@ impl State {
 
     /// An acknowledgement is taken: where it is of the outstanding message, and says that a part of
     /// a Down was applied, its core is OFF if it is off or going off, and the claims of the parts
-    /// that were applied are confirmed.
+    /// that were applied are confirmed. Compiled in place, so that no acknowledgement is written to
+    /// memory.
+    #[inline(always)]
     #[tactic(auto, unfolding(crate::specs::Seen::values_in))]
     pub fn acknowledge(&mut self, ack: Ack) -> Taken
         ensures taken { result ≡ taken_by (values_in self.old) ack }

@@ -187,12 +187,8 @@ fn grant_parts(tree: &mut Tree, board: &Board, core: Core, parts: &[Part])
     law_cores();
     law_granted();
     law_confirmed();
-    let places = tree.places(core);
     for (level, part) in parts.iter().enumerate() {
-        let node = Node {
-            level: level as u32,
-            place: places[level],
-        };
+        let node = tree.on_path(core, level as u32);
         tree.grant(node, part.depth);
     }
 }

@@ -40,15 +40,11 @@ pub fn confirm_parts(tree: &mut Tree, board: &Board, core: Core, parts: &[Part])
     if core.number >= board.cores() {
         return;
     }
-    let places = tree.places(core);
-    let known = tree.known_on(core);
     let most = parts.len().min(board.height() as usize + 1);
     for level in 0..most {
-        let node = Node {
-            level: level as u32,
-            place: places[level],
-        };
-        confirm_last(tree, node, known[level], parts[level]);
+        let node = tree.on_path(core, level as u32);
+        let known = tree.standing(core, level as u32).known;
+        confirm_last(tree, node, known, parts[level]);
     }
 }
 

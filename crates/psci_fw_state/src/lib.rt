@@ -15,9 +15,18 @@ mod claim;
 mod confirm;
 mod counts;
 mod domain;
+mod fault;
+mod newness;
 mod row;
+mod savable;
+mod saved_laws;
+mod saved_parts;
+mod saving;
+mod soundness;
 mod state;
 mod whole;
 
+pub use fault::SavedFault;
 pub use psci_coord::Wish;
+pub use saved_laws::{law_new, law_saved_state, law_sound};
 pub use state::State;

@@ -1,18 +1,30 @@
 -- Worked examples: which core runs, which one was started and enters, and what is not settled.
-use Rattle.std.proofs.Common.{◌∷◌, ◌≡◌, [], ap, arith, List, None, Option, refl, Some, sym, ℕ}
+use Rattle.std.proofs.Common.{◌<◌, ◌∷◌, ◌≡◌, [], ap, arith, List, None, Option, refl, Some, sym}
+use Rattle.std.proofs.Common.{true, ℕ}
 use Rattle.std.proofs.lemmas.Option.{none-some}
 use Rattle.psci_messages.specs.declared.start.Cause.TheVariants as causes
 use Rattle.psci_messages.specs.declared.start.Start.{Start}
+use Rattle.psci_messages.specs.declared.kind.Kind.TheVariants.{Down}
+use Rattle.psci_messages.specs.Message.{MessageValue}
+use Rattle.psci_fw_spec.specs.declared.hw.Hw.TheVariants as hws
+use Rattle.psci_fw_spec.specs.declared.outcome.Act.{Act}
 use Rattle.psci_fw_spec.specs.declared.outcome.Act.TheVariants as acts
+use Rattle.psci_fw_spec.specs.declared.outcome.Outcome.{Outcome}
 use Rattle.psci_world_spec.specs.declared.event.Event.{Event}
-use Rattle.psci_world_spec.specs.declared.event.Event.TheVariants.{Deliver, Enter}
+use Rattle.psci_world_spec.specs.declared.event.Event.TheVariants.{Deliver, Enter, Reset, Take}
+use Rattle.psci_world_spec.specs.declared.place.Place.TheVariants.{Started}
 use Rattle.psci_world_spec.specs.declared.said.Record.{Record}
+use Rattle.psci_world_spec.specs.declared.said.Said.{Said}
 use Rattle.psci_world_spec.specs.declared.said.Said.TheVariants.{Absent, Fw, Ignored}
 use Rattle.psci_world_spec.specs.Legal.{run_from}
+use Rattle.psci_world_spec.specs.Places.{place}
 use Rattle.psci_world_spec.proofs.Scripts as scripts
-use Rattle.psci_world_spec.proofs.Scripts.{board, on_3}
+use Rattle.psci_world_spec.proofs.Scripts.{acked, board, call, off, on_3, system_off, tall, value}
+use Rattle.psci_world_spec.proofs.Scripts.{version}
+use Rattle.psci_headline.proofs.Untold.{computing}
+use Rattle.psci_headline.proofs.Words.{nat_tests}
 use Rattle.psci_guest.specs.declared.arrival.Arrival.{Arrival}
-use Rattle.psci_guest.specs.Arrivals.{AreArrivals, IsArrival, RunsIn, SaysAct}
+use Rattle.psci_guest.specs.Arrivals.{AreArrivals, IsArrival, RunsIn, Says}
 use Rattle.psci_guest.specs.Turns.{IsSettled}
 
 abbrev after : List Event → List Record
@@ -20,13 +32,34 @@ after events = run_from board [] events
 
 -- Outcomes ----------------------------------------------------------------------------------------
 
-says : SaysAct (Fw acts.Resume None) acts.Resume
-says = refl
+-- this, and nothing is sent
+abbrev quiet : Act → Outcome
+quiet act = record { act = act; message = None }
 
-says_other : SaysAct (Fw acts.Stop None) acts.Resume → ⊥
-says_other e = absurd (cc)
+-- a message, and it as one that was sent
+abbrev message : MessageValue
+message = record {
+  kind = Down;
+  core = record { number = 0 };
+  life = 1;
+  number = 1;
+  parts = [];
+}
 
-says_nothing : (SaysAct Ignored acts.Stop → ⊥) × (SaysAct Absent acts.Stop → ⊥)
+abbrev sent_so : Said
+sent_so = Fw acts.Stop (Some (record { index = 3; message = message }))
+
+says : Says (Fw acts.Resume None) (quiet acts.Resume)
+    × Says sent_so (record { act = acts.Stop; message = Some message })
+says = ((refl, refl), (refl, refl))
+
+says_other : Says (Fw acts.Stop None) (quiet acts.Resume) → ⊥
+says_other is = let e = is.0 in absurd (cc)
+
+says_less : Says sent_so (quiet acts.Stop) → ⊥
+says_less is = let e = is.1 in absurd (cc)
+
+says_nothing : (Says Ignored (quiet acts.Stop) → ⊥) × (Says Absent (quiet acts.Stop) → ⊥)
 says_nothing = (λ e. e, λ e. e)
 
 -- Running cores -----------------------------------------------------------------------------------
@@ -49,8 +82,12 @@ abbrev boot : Arrival
 boot = record {
   core = record { number = 0 };
   start = record { life = 1; number = 1; cause = causes.Boot };
-  act = acts.Enter 0x40000000 0;
+  outcome = quiet (acts.Enter 0x40000000 0);
 }
+
+-- what is so of each of four cores is so of every core of a board of four
+pub by_core : (P : ℕ → Type 0) → P 0 → P 1 → P 2 → P 3 → (c : ℕ) → c < 4 → P c
+by_core P p q r s c on = grind (arith, nat_tests)
 
 abbrev number_in : Option Start → ℕ
 number_in None = 0
@@ -58,7 +95,15 @@ number_in (Some s) = s.number
 
 boot_enters : IsArrival board [] boot
 unfolding scripts.computing
-boot_enters = record { core = omega arith; started = refl; start = refl; act = refl }
+boot_enters = record {
+  core = omega arith;
+  started = refl;
+  start = refl;
+  says = (refl, refl);
+  alone = λ c on.
+      by_core (λ x. place board [] x ≡ Started → x ≡ 0) (λ e. refl) (λ e. absurd (cc))
+      (λ e. absurd (cc)) (λ e. absurd (cc)) c on;
+}
 
 has_entered : IsArrival board (after (Enter 0 ∷ [])) boot → ⊥
 unfolding scripts.computing
@@ -69,9 +114,21 @@ other_start : IsArrival board []
 unfolding scripts.computing
 other_start is = let n : 1 ≡ 2 = ap number_in is.start in absurd (omega (arith, n))
 
-other_act : IsArrival board [] (record boot { act = acts.Resume }) → ⊥
+other_act : IsArrival board [] (record boot { outcome = quiet acts.Resume }) → ⊥
 unfolding scripts.computing
-other_act is = let act = is.act in absurd (cc)
+other_act is = let act = is.says.0 in absurd (cc)
+
+-- the boot core waits too, which was reset
+abbrev third : Arrival
+third = record {
+  core = record { number = 3 };
+  start = record { life = 1; number = 1; cause = causes.On };
+  outcome = quiet (acts.Enter 0x40001000 7);
+}
+
+another_waits : IsArrival board (after (Enter 0 ∷ on_3 ∷ Deliver 0 ∷ Reset 0 ∷ [])) third → ⊥
+unfolding scripts.computing
+another_waits is = let no : 0 ≡ 3 = is.alone 0 (omega arith) refl in absurd (omega (arith, no))
 
 boot_waits : AreArrivals board [] None → ⊥
 unfolding scripts.computing
@@ -88,3 +145,33 @@ start_waits is = none-some _ (sym ((is.rest 1 refl).own 3 (omega arith)))
 core_waits : IsSettled board (after (Enter 0 ∷ on_3 ∷ Deliver 0 ∷ [])) → ⊥
 unfolding scripts.computing
 core_waits is = (is.rest 1 refl).entered 3 (omega arith) refl
+
+-- a record says that nothing came of a call that was answered
+no_answer : IsSettled board (record { event = version 0; said = Absent } ∷ after (Enter 0 ∷ [])) → ⊥
+unfolding scripts.computing
+no_answer is = let said = is.legal.0 in absurd (cc)
+
+-- core 3 is OFF, and is answered as if it ran
+answered_off : IsSettled board (record { event = version 3; said = value 0x10001 }
+    ∷ after (Enter 0 ∷ on_3 ∷ Deliver 0 ∷ Enter 3 ∷ off 3 ∷ Deliver 1 ∷ Take 1 ∷ [])) → ⊥
+unfolding scripts.computing
+answered_off is = (is.safe.0.off 3 (omega arith) refl).0 refl
+
+-- on three levels the system is off, and was acknowledged of what is below it alone
+system_off_untold : IsSettled tall (run_from tall
+    (record { event = Deliver 0; said = acked 1 Down 0 1 1 3 true }
+    ∷ run_from tall [] (Enter 0 ∷ call 0 0xc4000001 0x03013333 0x40000100 0 ∷ Deliver 0 ∷ []))
+    (Take 1 ∷ [])) → ⊥
+unfolding computing
+system_off_untold is =
+    let no : hws.On ≡ hws.Off = (is.told 1 refl).hw (record { level = 3; place = 0 })
+    (record { level = omega arith; place = omega arith }) in
+    cc
+
+-- a core enters behind the end of the last life
+enters_behind : IsSettled board (record {
+  event = Enter 0;
+  said = Fw (acts.Enter 0x40000000 0) None;
+} ∷ after (Enter 0 ∷ system_off 0 ∷ Deliver 0 ∷ [])) → ⊥
+unfolding scripts.computing
+enters_behind is = let place = is.over refl 0 in absurd (cc)

@@ -10,8 +10,15 @@ pub mod Arriving
 pub mod Tied
 pub mod Events
 pub mod Doors
+pub mod Present
 pub mod Stepping
+pub mod Sound
+pub mod Keeping
+pub mod Guests
+pub mod SavedParts
 -- Worked examples.
 mod ArrivalRows
+mod GuestRows
 mod PairRows
+pub mod SavedRows
 mod TurnRows

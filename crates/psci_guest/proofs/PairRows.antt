@@ -1,5 +1,5 @@
 -- Worked examples: what firmware and power controller keep as one.
-use Rattle.std.proofs.Common.{◌≡◌, ℕ, List, [], ◌∷◌, false, None, refl, Some, true}
+use Rattle.std.proofs.Common.{◌++◌, ◌≡◌, ℕ, List, [], ◌∷◌, false, None, refl, Some, true}
 use Rattle.psci_messages.specs.Message.{MessageValue}
 use Rattle.psci_messages.specs.declared.kind.Kind.TheVariants as kinds
 use Rattle.psci_messages.specs.declared.start.Cause.TheVariants as causes
@@ -16,9 +16,10 @@ use Rattle.psci_world_spec.specs.declared.event.Event.TheVariants.{Deliver, Ente
 use Rattle.psci_world_spec.specs.Histories.{firmware_values}
 use Rattle.psci_world_spec.specs.Legal.{run_from}
 use Rattle.psci_world_spec.proofs.Scripts as scripts
-use Rattle.psci_world_spec.proofs.Scripts.{board, on_3, system_reset}
+use Rattle.psci_world_spec.proofs.Scripts.{board, on_3, system_off, system_reset}
 use Rattle.psci_guest.specs.Arrivals.{kept_after}
-use Rattle.psci_guest.specs.Pair.{arrival_of, is_known, Kept, message_of, runs_in, waiting_in}
+use Rattle.psci_guest.specs.Pair.{arrival_of, is_known, Kept, message_of, runs_in}
+use Rattle.psci_guest.specs.Pair.{stands_in, waiting_in}
 use Rattle.psci_guest.specs.Pair.{with_call}
 use Rattle.psci_guest.specs.Turns.{core_started, started_by}
 
@@ -45,7 +46,11 @@ start life number = record { life = life; number = number; cause = causes.Boot }
 
 tells : (arrival_of (record { number = 3 }) (start 1 2)
     (replies.Out (record { act = acts.Resume; message = None }))
-    ≡ Some (record { core = record { number = 3 }; start = start 1 2; act = acts.Resume }))
+    ≡ Some (record {
+      core = record { number = 3 };
+      start = start 1 2;
+      outcome = record { act = acts.Resume; message = None };
+    }))
     × (arrival_of (record { number = 3 }) (start 1 2) (replies.Taken takens.Old) ≡ None)
     × (arrival_of (record { number = 3 }) (start 1 2) (replies.Fault faults.OldStart) ≡ None)
 tells = (refl, refl, refl)
@@ -89,6 +94,13 @@ runs : (runs_in (at []) 1 0 ≡ false) × (runs_in (at (Enter 0 ∷ [])) 1 0 ≡
     × (runs_in (at was_reset) 2 0 ≡ false)
 unfolding scripts.computing
 runs = (refl, refl, refl, refl, refl, refl, refl)
+
+-- a core stands that runs in no life
+stands : (stands_in (at []) 0 ≡ true) × (stands_in (at (Enter 0 ∷ [])) 0 ≡ false)
+    × (stands_in (at (Enter 0 ∷ [])) 3 ≡ true) × (stands_in (at third_on) 3 ≡ false)
+    × (stands_in (at (third_on ++ system_off 0 ∷ Deliver 1 ∷ [])) 3 ≡ true)
+unfolding scripts.computing
+stands = (refl, refl, refl, refl, refl)
 
 -- the boot core enters: its life begins
 enters : (with_call board 0 (calls.Enter (record { life = 1; number = 1; cause = causes.Boot }))

@@ -1,13 +1,14 @@
 -- What both keep, step by step, in a run of turns.
-use Rattle.psci_headline.proofs.Words.{◌<◌, ◌∙◌, ◌≡◌, [], and_parts, ap, arith, BoardValue}
-use Rattle.psci_headline.proofs.Words.{controller_values, cores, Enter, eq-eqb, eqb-true, false}
-use Rattle.psci_headline.proofs.Words.{call_fault, cases_eq, in_life, enter_fault, false≢true}
+use Rattle.psci_headline.proofs.Words.{◌<◌, ◌∙◌, ◌≡◌, [], ap, arith, BoardValue}
+use Rattle.psci_headline.proofs.Words.{controller_values, cores, Enter}
+use Rattle.psci_headline.proofs.Words.{call_fault, cases_eq, enter_fault}
 use Rattle.psci_headline.proofs.Words.{firmware_values, FwFault, inl, inr}
 use Rattle.psci_headline.proofs.Words.{IsLegalPast, last_start, length, List, outcome_of}
 use Rattle.psci_headline.proofs.Words.{reply_or, request_of, same_Some}
 use Rattle.psci_headline.proofs.Words.{MessageValue, nat_tests, None, Option, Record, refl, Regs}
 use Rattle.psci_headline.proofs.Words.{Running, sent, Some, Start, Started, Stopped, subst, sym}
-use Rattle.psci_headline.proofs.Words.{true, Values, ℕ}
+use Rattle.psci_headline.proofs.Words.{Values, ℕ}
+use Rattle.std.specs.Prelude.{option_map}
 use Rattle.psci_board.specs.declared.node.Core.{Core}
 use Rattle.psci_ctl_spec.specs.Values as controlled
 use Rattle.psci_fw_spec.specs.Answer.{answer}
@@ -16,20 +17,16 @@ use Rattle.psci_fw_spec.specs.declared.outcome.Outcome.{Outcome}
 use Rattle.psci_fw_spec.specs.declared.reply.FwReply.{FwReply}
 use Rattle.psci_fw_spec.specs.declared.reply.FwReply.TheVariants as replies
 use Rattle.psci_world_spec.specs.declared.event.Event.TheVariants.{Call, Reset, Wake}
-use Rattle.psci_world_spec.specs.declared.place.Place.{Place}
 use Rattle.psci_world_spec.specs.Histories.{sent_in}
-use Rattle.psci_world_spec.specs.Legal.{legal, said_of}
+use Rattle.psci_world_spec.specs.Legal.{legal, said_of, sent_as}
 use Rattle.psci_world_spec.specs.Places.{place}
 use Rattle.psci_fw_spec.specs.Lives as lives
 use Rattle.psci_headline.proofs.Agreed.{first_kept}
-use Rattle.psci_headline.proofs.Agreeing.{found_own}
 use Rattle.psci_headline.proofs.AllDown.{first_controlled}
-use Rattle.psci_headline.proofs.Standing.{settled_life}
 use Rattle.psci_ctl_spec.specs.declared.call.CtlCall.TheVariants as asked
 use Rattle.psci_ctl_spec.specs.Legal.{IsOfBoard}
-use Rattle.psci_fw_spec.specs.Phases as phases
-use Rattle.psci_guest.specs.Arrivals.{AreArrivals, kept_after, RunsIn, SaysAct}
-use Rattle.psci_guest.specs.Pair.{arrival_of, message_of, runs_in, waiting_in}
+use Rattle.psci_guest.specs.Arrivals.{AreArrivals, kept_after, RunsIn, Says}
+use Rattle.psci_guest.specs.Pair.{arrival_of, message_of, waiting_in}
 use Rattle.psci_guest.specs.Steps.{AreSteps, call_reply, entry_after, IsCallStep, IsDoor, IsDoorOf}
 use Rattle.psci_guest.specs.Steps.{IsKickStep}
 use Rattle.psci_guest.specs.Turns.{arrived, Calls, event_of, exchange, IsSettled, Resets}
@@ -41,13 +38,18 @@ use Rattle.psci_guest.proofs.Events.{call_kept, call_said, call_sound, entry_kep
 use Rattle.psci_guest.proofs.Events.{entry_sound, reset_kept, wake_kept}
 use Rattle.psci_guest.proofs.Happened.{TurnLaws}
 use Rattle.psci_guest.proofs.Landing.{HasLanded}
+use Rattle.psci_guest.proofs.Present.{moves_so, rests_so, runs_so, stands_so}
 use Rattle.psci_guest.proofs.Tied.{IsMore, reply_sends}
 use Rattle.psci_guest.proofs.Turning.{arriving_case, begun_by, exchanged, first_landed, home}
 use Rattle.psci_guest.proofs.Turning.{IsHome}
 
 -- an outcome is said as it is
-says : (n : ℕ) (o : Outcome) → SaysAct (said_of n (replies.Out o)) o.act
-says n o = refl
+sent_back : (n : ℕ) (m : Option MessageValue) → option_map (λ s. s.message) (sent_as n m) ≡ m
+sent_back n None = refl
+sent_back n (Some m) = refl
+
+says : (n : ℕ) (o : Outcome) → Says (said_of n (replies.Out o)) o
+says n o = (refl, sent_back n o.message)
 
 -- the firmware refuses no entry of a started core
 out_of : (f : Option FwFault) (o : Outcome) → f ≡ None → reply_or f o ≡ replies.Out o
@@ -100,10 +102,14 @@ module _ (b : BoardValue) (past : List Record) (one : ℕ) (laws : TurnLaws b) (
     started = subst (λ i. place b past i ≡ Started) (sym same) (waits s e).at;
     start = subst (λ i. last_start (controller_values b past) i ≡ Some s) (sym same)
         (waits s e).last;
-    act = subst (λ i. SaysAct (legal b past (Enter i)) o.act) (sym same)
-        (subst (λ said. SaysAct said o.act)
+    says = subst (λ i. Says (legal b past (Enter i)) o) (sym same)
+        (subst (λ said. Says said o)
         (sym (entry_said b past one s on (waits s e).at (waits s e).last
-        ∙ ap (said_of (length (sent past))) reply)) refl);
+        ∙ ap (said_of (length (sent past))) reply)) (says (length (sent past)) o));
+    alone = λ c inside at. elim (cases_eq c one) [
+      | inl e ↦ e ∙ sym same
+      | inr ne ↦ absurd (has.others c inside ne at)
+    ];
   }
   tells s core same e (replies.Taken taken) reply =
       let is = entry_out b past one s laws (waits s e).at (waits s e).last has.legal on in
@@ -173,8 +179,12 @@ module _ (b : BoardValue) (ts : List Turn) (laws : TurnLaws b) (more : IsMore b)
       record {
         sound = sound;
         kept = call_kept b past c regs more on runs.place;
-        act = λ o e.
-            subst (λ s. SaysAct s o.act) (sym (said ∙ ap (said_of (length (sent past))) e)) refl;
+        free = λ f e.
+            let is = call_out b past c regs laws is_home.legal on runs.place in
+            let no : replies.Out is.0 ≡ replies.Fault f = sym is.1 ∙ e in absurd (cc);
+        says = λ o e.
+            subst (λ s. Says s o) (sym (said ∙ ap (said_of (length (sent past))) e))
+            (says (length (sent past)) o);
         door = doors b (exchange b past (Call c regs))
             (started_by (message_of (call_reply b past c regs))) laws more
             (subst (λ o. HasLanded b (started_by o) (exchange b past (Call c regs))) sends
@@ -198,44 +208,6 @@ module _ (b : BoardValue) (ts : List Turn) (laws : TurnLaws b) (more : IsMore b)
     door = door b (exchange b past (Reset c)) c laws more (landed (Resets c)) on;
   }
 
-  -- Who runs --------------------------------------------------------------------------------------
-
-  present : (life c : ℕ) → runs_in (kept_after b past) life c ≡ true
-      → ((controller_values b past).life ≡ Some life)
-      × ((firmware_values b past).phase c ≡ phases.Running)
-  present life c e = grind (arith, nat_tests, and_parts, eqb-true)
-
-  own : (life : ℕ) → (controller_values b past).life ≡ Some life
-      → in_life b life (firmware_values b past) ≡ firmware_values b past
-  own life e =
-      found_own b life (firmware_values b past) (sym (settled_life b past life laws.settle.some
-      (laws.settle.past past is_home.legal) e is_home.entered).own)
-
-  runs_so : (c life : ℕ) → c < cores b → runs_in (kept_after b past) life c ≡ true
-      → RunsIn b past life c
-  runs_so c life on e =
-      let both = present life c e in
-      let agreed = (laws.settle.past past is_home.legal).given.agreed.present life both.0 in
-      record { present = both.0; place = by (place b past c) refl }
-    where
-      by : (p : Place) → place b past c ≡ p → place b past c ≡ Running
-      by Running f = f
-      by Started f = absurd (is_home.entered c on f)
-      by Stopped f =
-          let both = present life c e in
-          let agreed = (laws.settle.past past is_home.legal).given.agreed.present life both.0 in
-          absurd (agreed.rests c on f (ap (λ (u : Values). u.phase c) (own life both.0) ∙ both.1))
-
-  stands_so : (c life : ℕ) → c < cores b → runs_in (kept_after b past) life c ≡ false
-      → RunsIn b past life c → ⊥
-  stands_so c life on e runs =
-      let agreed = (laws.settle.past past is_home.legal).given.agreed.present life runs.present in
-      let phase = ap (λ (u : Values). u.phase c) (sym (own life runs.present))
-      ∙ agreed.runs c on runs.place in
-      let here = runs.present in
-      let yes : runs_in (kept_after b past) life c ≡ true = grind (arith, nat_tests, eq-eqb) in
-      false≢true (sym e ∙ yes)
-
 pub steps : (b : BoardValue) → TurnLaws b → IsMore b
     → ((ts : List Turn) → IsSettled b (turns b ts)) → AreSteps b
 unfolding turns
@@ -254,6 +226,8 @@ steps b laws more settled = record {
   first = door b [] 0 laws more (first_landed b) laws.settle.some;
   runs = λ ts c life on e. runs_so b ts laws more c life on e;
   stands = λ ts c life on e runs. stands_so b ts laws more c life on e runs;
+  moves = λ ts c on e. moves_so b ts laws more c on e;
+  rests = λ ts c on e. rests_so b ts laws more c on e;
   call = λ ts c life regs on runs. call_step b ts laws more c life regs on runs;
   wake = λ ts c on at. wake_step b ts laws more c on at;
   reset = λ ts c on. reset_step b ts laws more c on;

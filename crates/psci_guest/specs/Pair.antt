@@ -1,6 +1,6 @@
 -- Firmware and power controller as one: what both keep, and what an exchange leaves of it.
 use Rattle.std.specs.Prelude.{◌≡◌, ℕ, Bool, ◌==◌, ◌&&◌, nat_le, if◌then◌else◌, Option, None}
-use Rattle.std.specs.Prelude.{Some, option_and_then}
+use Rattle.std.specs.Prelude.{Some, is_some, not, option_and_then}
 use Rattle.psci_board.specs.Board.{BoardValue, IsBoard}
 use Rattle.psci_board.specs.declared.node.Core.{Core}
 use Rattle.psci_messages.specs.Message.{MessageValue}
@@ -82,14 +82,14 @@ with_call b c call r k = with_message b (message_of r) (record {
   controller = k.controller;
 })
 
--- what a core sends by this call is for a core of the board
-abbrev pub SendsSound : PairValue → ℕ → FwCall → Type 0
-SendsSound p c call = (m : MessageValue)
-    → message_of (answer (board_of p) (seen_firmware p.firmware) c call) ≡ Some m
-    → IsOfBoard (board_of p) m
+-- what the firmware of a board sends is for a core of it, whatever the firmware keeps
+abbrev pub SendsSound : BoardValue → Type 0
+SendsSound b = (v : kept.Values) (c : ℕ) (call : FwCall) (m : MessageValue)
+    → message_of (answer b v c call) ≡ Some m → IsOfBoard b m
 
--- What an exchange leaves: the board, and this of what both kept.
+-- What an exchange leaves: both, of the same board, and this of what both kept.
 pub record IsLeft (old new : PairValue) (k : Kept) : Type 0 where
+  pub both : IsPair new
   pub board : board_of new ≡ board_of old
   pub kept : kept_by new ≡ k
 
@@ -98,6 +98,10 @@ pub record IsLeft (old new : PairValue) (k : Kept) : Type 0 where
 -- a core runs, in this life
 abbrev pub runs_in : Kept → ℕ → ℕ → Bool
 runs_in k life c = is_this_life k.controller.life life && is_running (k.firmware.phase c)
+
+-- a core stands: it runs in no life
+abbrev pub stands_in : Kept → ℕ → Bool
+stands_in k c = not (is_some k.controller.life && is_running (k.firmware.phase c))
 
 -- the firmware knows of this start of a core
 abbrev pub is_known : Kept → ℕ → Start → Bool
@@ -110,7 +114,7 @@ waiting_in k c =
 
 -- what is told of a core that entered by this start, and was replied so
 abbrev pub arrival_of : Core → Start → FwReply → Option Arrival
-arrival_of core s (replies.Out o) = Some (record { core = core; start = s; act = o.act })
+arrival_of core s (replies.Out o) = Some (record { core = core; start = s; outcome = o })
 arrival_of core s (replies.Taken taken) = None
 arrival_of core s (replies.Fault fault) = None
 

@@ -12,6 +12,7 @@ use Rattle.psci_ctl_spec.specs.Replies.{reply}
 use Rattle.psci_ctl_spec.specs.Values as controlled
 use Rattle.psci_fw_spec.specs.Lives as lives
 use Rattle.psci_fw_spec.specs.declared.call.FwCall.TheVariants as calls
+use Rattle.psci_fw_spec.specs.declared.fault.FwFault.{FwFault}
 use Rattle.psci_fw_spec.specs.declared.outcome.Outcome.{Outcome}
 use Rattle.psci_fw_spec.specs.declared.reply.FwReply.{FwReply}
 use Rattle.psci_fw_spec.specs.declared.reply.FwReply.TheVariants as replies
@@ -19,13 +20,14 @@ use Rattle.psci_fw_spec.specs.Answer.{answer}
 use Rattle.psci_world_spec.specs.psci_abi.declared.registers.Regs.{Regs}
 use Rattle.psci_world_spec.specs.declared.event.Event.{Event}
 use Rattle.psci_world_spec.specs.declared.event.Event.TheVariants.{Call, Wake, Reset}
-use Rattle.psci_world_spec.specs.declared.place.Place.TheVariants.{Stopped}
+use Rattle.psci_world_spec.specs.declared.place.Place.TheVariants.{Running, Stopped}
 use Rattle.psci_world_spec.specs.declared.said.Record.{Record}
 use Rattle.psci_world_spec.specs.Histories.{controller_values, firmware_values}
 use Rattle.psci_world_spec.specs.Legal.{legal}
 use Rattle.psci_world_spec.specs.Places.{place}
-use Rattle.psci_guest.specs.Arrivals.{AreArrivals, kept_after, RunsIn, SaysAct}
-use Rattle.psci_guest.specs.Pair.{arrival_of, message_of, runs_in, waiting_in, with_call}
+use Rattle.psci_guest.specs.Arrivals.{AreArrivals, kept_after, RunsIn, Says}
+use Rattle.psci_guest.specs.Pair.{arrival_of, message_of, runs_in, stands_in, waiting_in}
+use Rattle.psci_guest.specs.Pair.{with_call}
 use Rattle.psci_guest.specs.Turns.{IsSettled, Turn, arrived, event_of, exchange, started_by, turns}
 
 -- what the firmware replies after these records to a core that calls
@@ -64,8 +66,10 @@ pub record IsCallStep (b : BoardValue) (past : List Record) (c : ℕ) (regs : Re
   pub sound : (m : MessageValue) → message_of (call_reply b past c regs) ≡ Some m → IsOfBoard b m
   pub kept : kept_after b (exchange b past (Call c regs))
       ≡ with_call b c (calls.Smc regs) (call_reply b past c regs) (kept_after b past)
-  pub act : (o : Outcome) → call_reply b past c regs ≡ replies.Out o
-      → SaysAct (legal b past (Call c regs)) o.act
+  -- it is not refused
+  pub free : (f : FwFault) → call_reply b past c regs ≡ replies.Fault f → ⊥
+  pub says : (o : Outcome) → call_reply b past c regs ≡ replies.Out o
+      → Says (legal b past (Call c regs)) o
   pub door : IsDoorOf b (exchange b past (Call c regs))
       (started_by (message_of (call_reply b past c regs)))
 
@@ -97,6 +101,10 @@ pub record AreSteps (b : BoardValue) : Type 0 where
       → runs_in (kept_after b (turns b ts)) life c ≡ true → RunsIn b (turns b ts) life c
   pub stands : (ts : List Turn) (c life : ℕ) → c < cores b
       → runs_in (kept_after b (turns b ts)) life c ≡ false → RunsIn b (turns b ts) life c → ⊥
+  pub moves : (ts : List Turn) (c : ℕ) → c < cores b
+      → stands_in (kept_after b (turns b ts)) c ≡ false → place b (turns b ts) c ≡ Running
+  pub rests : (ts : List Turn) (c : ℕ) → c < cores b
+      → stands_in (kept_after b (turns b ts)) c ≡ true → place b (turns b ts) c ≡ Stopped
   pub call : (ts : List Turn) (c life : ℕ) (regs : Regs) → c < cores b
       → RunsIn b (turns b ts) life c → IsCallStep b (turns b ts) c regs
   pub wake : (ts : List Turn) (c : ℕ) → c < cores b → place b (turns b ts) c ≡ Stopped

@@ -8,11 +8,20 @@
 #![tactic(auto)]
 
 mod arrival;
+mod fault;
+mod guest;
 mod laws;
 mod pair;
+mod saving;
+mod sends;
 mod steps;
+mod turned;
 
 pub use arrival::Arrival;
+pub use fault::LoadFault;
+pub use guest::GuestPower;
 pub use laws::law_turns;
 pub use pair::Pair;
+pub use saving::law_goes_on;
 pub use steps::law_steps;
+pub use turned::Turned;

@@ -1,6 +1,7 @@
 //! Firmware and power controller as one.
 
 use crate::arrival::Arrival;
+use crate::sends::law_sends;
 use psci_board::{Board, Core, Memory};
 use psci_ctl::{Controller, Delivery, Kick, Message};
 use psci_fw::{Firmware, FwFault, Outcome, Regs, Start};
@@ -11,8 +12,8 @@ use std::marker::Model;
 /// the acknowledgement taken. No call takes memory.
 #[derive(Drop)]
 pub struct Pair {
-    firmware: Firmware,
-    controller: Controller,
+    pub(crate) firmware: Firmware,
+    pub(crate) controller: Controller,
 }
 
 impl Model for Pair {
@@ -43,14 +44,16 @@ ghost use Rattle.psci_fw_spec.specs.Lives as lives;
 ghost use Rattle.psci_fw_spec.specs.declared.call.FwCall.TheVariants as calls;
 ghost use Rattle.psci_messages.specs.Message.{MessageValue};
 ghost use Rattle.psci_messages.specs.declared.start.Start as starts;
-ghost use Rattle.psci_guest.specs.Pair.{IsLeft, SendsSound, board_of, kept_by, with_call};
-ghost use Rattle.psci_guest.specs.Pair.{arrival_of, entry_reply, runs_in, waiting_in, with_message};
+ghost use Rattle.psci_guest.specs.Pair.{IsLeft, IsPair, board_of, kept_by, with_call};
+ghost use Rattle.psci_guest.specs.Pair.{arrival_of, entry_reply, runs_in, stands_in, waiting_in};
+ghost use Rattle.psci_guest.specs.Pair.{with_message};
 
 impl Pair {
     /// Firmware and power controller of this board, as the machine comes on: the firmware is in no
     /// life, and the boot core is started.
     pub fn new(alloc: Global, board: &Board) -> Result<Pair, Memory>
         ensures board { IfOk result (λ p. board_of p ≡ board.now) }
+        ensures sound { IfOk result (λ p. IsPair p) }
         ensures kept { IfOk result (λ p. kept_by p ≡ (record {
           firmware = lives.start_of_life board.now 0;
           controller = controlled.start_of_life board.now;
@@ -79,12 +82,12 @@ impl Pair {
     /// A core calls, what it sends is delivered, and the acknowledgement taken. Refused as
     /// `Firmware::smc` says.
     pub fn call(&mut self, core: Core, regs: Regs) -> Result<Outcome, FwFault>
-        requires { SendsSound self.old core.number (calls.Smc regs) }
         ensures answer { reply_of result ≡ answer (board_of self.old)
             (seen_firmware self.old.firmware) core.number (calls.Smc regs) }
         ensures left { IsLeft self.old self.new (with_call (board_of self.old) core.number
             (calls.Smc regs) (reply_of result) (kept_by self.old)) }
     {
+        law_sends();
         let outcome = self.firmware.smc(core, regs)?;
         self.deliver(outcome.message.as_ref());
         Ok(outcome)
@@ -93,12 +96,12 @@ impl Pair {
     /// A core enters by this start, what it sends is delivered, and the acknowledgement taken.
     /// Refused as `Firmware::enter` says.
     pub fn enter(&mut self, core: Core, start: Start) -> Result<Outcome, FwFault>
-        requires { SendsSound self.old core.number (calls.Enter start) }
         ensures answer { reply_of result ≡ answer (board_of self.old)
             (seen_firmware self.old.firmware) core.number (calls.Enter start) }
         ensures left { IsLeft self.old self.new (with_call (board_of self.old) core.number
             (calls.Enter start) (reply_of result) (kept_by self.old)) }
     {
+        law_sends();
         let outcome = self.firmware.enter(core, start)?;
         self.deliver(outcome.message.as_ref());
         Ok(outcome)
@@ -111,11 +114,17 @@ impl Pair {
         self.controller.life() == Some(life) && self.firmware.running(core)
     }
 
+    /// Whether a core stands: it runs in no life.
+    pub fn stands(&self, core: Core) -> bool
+        ensures { result ≡ stands_in (kept_by self.now) core.number }
+    {
+        !(self.controller.life().is_some() && self.firmware.running(core))
+    }
+
     /// A core enters that was started, if it was: how it does, or None, and nothing changes.
+    #[inline(never)]
     pub fn arrive(&mut self, core: Core) -> Option<Arrival>
-        requires core { core.number < cores (board_of self.old) }
-        requires sound { (s : starts.Start) → waiting_in (kept_by self.old) core.number ≡ Some s
-            → SendsSound self.old core.number (calls.Enter s) }
+        requires { core.number < cores (board_of self.old) }
         ensures none { waiting_in (kept_by self.old) core.number ≡ None
             → (result ≡ None) × (self.new ≡ self.old) }
         ensures told { (s : starts.Start) → waiting_in (kept_by self.old) core.number ≡ Some s
@@ -125,10 +134,14 @@ impl Pair {
             (calls.Enter s) (entry_reply self.old core.number s) (kept_by self.old)) }
     {
         let start = self.waiting(core)?;
-        let Ok(Outcome { act, .. }) = self.enter(core, start) else {
+        let Ok(outcome) = self.enter(core, start) else {
             return None;
         };
-        Some(Arrival { core, start, act })
+        Some(Arrival {
+            core,
+            start,
+            outcome,
+        })
     }
 
     /// The start by which a core is to enter, if it is at its start.
@@ -180,10 +193,11 @@ impl Pair {
         ensures { IsLeft self.old self.new (with_message (board_of self.old)
             (option_map (λ message. message.now) message.entry) (kept_by self.old)) }
     {
+        let controller = &mut self.controller;
         let Some(message) = message else {
             return;
         };
-        if let Delivery::Applied(ack) = self.controller.deliver(message) {
+        if let Delivery::Applied(ack) = controller.deliver(message) {
             self.firmware.take(ack);
         }
     }

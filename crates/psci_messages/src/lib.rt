@@ -8,19 +8,26 @@
 //!   kind, core, life and number, and says what was carried out.
 //! - A *start* is one power-up of a core, numbered from 1 in each life.
 //! - A message is *outstanding* from when it is sent until it is acknowledged or given up.
+//! - Outstanding messages are *saved* as 12 words a slot, that of the system first: kind (1 Down, 2
+//!   Start, 3 Off, 4 Reset; 0 for none), core, life, number, and depth and generation of each part.
 #![tactic(auto)]
 
 mod ack;
 mod claim_laws;
 mod kind;
 mod laws;
+mod loading;
 mod message;
 mod osi;
 mod part;
 mod parts;
+mod saved_laws;
+mod saving;
 mod slot;
+mod slot_words;
 mod slots;
 mod start;
+mod sum;
 mod taken;
 
 pub use ack::Ack;
@@ -31,6 +38,10 @@ pub use message::Message;
 pub use osi::Osi;
 pub use part::Part;
 pub use parts::{MOST_PARTS, Parts};
+pub use saved_laws::law_slots_words;
+pub use saving::{SLOT_WORDS, write};
+pub use slot_words::are_slots;
 pub use slots::Slots;
 pub use start::{Cause, Start};
+pub use sum::{FACTOR, law_sum, sum_of};
 pub use taken::Taken;

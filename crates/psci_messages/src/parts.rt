@@ -41,6 +41,7 @@ impl Model for Parts {
 }
 
 ghost use Rattle.std.specs.Prelude.{◌≡◌, ◌<◌, ◌≤◌, ◌++◌, ◌∷◌, [], ◌↔◌, IsTrue, length, take};
+ghost use Rattle.psci_messages.specs.Places.{places_of};
 
 impl Parts {
     /// No parts.
@@ -75,6 +76,13 @@ impl Parts {
         ensures few { length self.now ≤ MOST_PARTS }
     {
         &self.places[..self.count]
+    }
+
+    /// The parts, and then the places that are not used.
+    pub(crate) fn places(&self) -> &[Part; MOST_PARTS]
+        ensures { result.now ≡ places_of self.now }
+    {
+        &self.places
     }
 
     /// The same parts again.

@@ -2,7 +2,9 @@
 
 use crate::ack::Ack;
 use crate::kind::Kind;
+use crate::loading::load_slots;
 use crate::message::Message;
+use crate::saving::{SLOT_WORDS, save_slot, save_slots};
 use crate::slot::Slot;
 use crate::taken::Taken;
 use psci_board::{Core, Memory};
@@ -26,11 +28,12 @@ impl Model for Slots {
 }
 
 ghost use Rattle.std.specs.Prelude.{◌≡◌, None, Some, option_map, replicate, length, IfOk};
-ghost use Rattle.std.specs.Prelude.{◌<◌, IsSomeAnd};
+ghost use Rattle.std.specs.Prelude.{◌<◌, ◌≤◌, ◌+◌, ◌++◌, suc, true, take, IsSomeAnd};
 ghost use Rattle.std.specs.Prelude.{slice_index_or, slice_set};
 ghost use Rattle.psci_messages.specs.Slots.{slot_of, message_in, message_at, with_message};
 ghost use Rattle.psci_messages.specs.Slots.{no_messages, after_change, taken, IsOfCores};
 ghost use Rattle.psci_messages.specs.Slots.{answered, is_done};
+ghost use Rattle.psci_messages.specs.Saved.{AreKept, are_slots, slots_words};
 ghost use Rattle.psci_messages.specs.declared.taken.Taken.TheVariants.{Old};
 ghost use Rattle.psci_messages.specs.Slots.Change.{Put, Clear, ClearAll, Acknowledge};
 
@@ -150,12 +153,37 @@ impl Slots {
     }
 }
 
+impl Slots {
+    /// Writes the messages from this place on: the slot of the system, then those of the cores. No
+    /// other word is written before them.
+    pub fn save(&self, words: &mut [u64], start: usize)
+        requires { start + length (slots_words self.now) ≤ length words.old }
+        ensures words { take (start + length (slots_words self.now)) words.new
+            ≡ take start words.old ++ slots_words self.now }
+        ensures kept { AreKept self.now }
+    {
+        save_slot(&self.system, words, start);
+        save_slots(&self.cores, words, start + SLOT_WORDS);
+    }
+
+    /// Has from now on the messages that were saved as these words, in as many slots.
+    pub fn load(&mut self, words: &[u64])
+        requires { are_slots (suc (length self.old.cores)) words.now ≡ true }
+        ensures words { slots_words self.new ≡ words.now }
+        ensures cores { length self.new.cores ≡ length self.old.cores }
+    {
+        let (system, cores) = words.split_at(SLOT_WORDS);
+        self.system.load(system);
+        load_slots(&mut self.cores, cores);
+    }
+}
+
 /// So many empty slots.
 #[inline(never)]
 fn no_messages(alloc: Global, cores: u16) -> Result<Vec<Slot>, Memory>
     ensures { IfOk result (λ slots. slots.items ≡ replicate cores None) }
 {
-    let mut slots = Vec::new(alloc);
+    let mut slots = Vec::with_capacity(alloc, cores as usize)?;
     for _ in 0..cores {
         slots.push(Slot::empty())?;
     }

@@ -1,6 +1,6 @@
 -- The reasons to refuse a request, one domain after another.
 use Rattle.std.proofs.lemmas.Bool.Decides.{nat_tests}
-use Rattle.std.proofs.Common.{◌≡◌, ℕ, ◌<◌, ◌≤◌, List, [], ◌∷◌, ◌++◌, arith, Some, None}
+use Rattle.std.proofs.Common.{◌≡◌, ℕ, ◌<◌, ◌≤◌, List, [], ◌∷◌, ◌++◌, arith, Some, None, refl}
 use Rattle.std.specs.Prelude.{Option}
 use Rattle.std.proofs.lemmas.List.Folds.{list_any-append}
 use Rattle.std.proofs.lemmas.List.{length-append}
@@ -20,6 +20,11 @@ pub refusal-append : (b : BoardValue) (v : PowerView) (xs ys : List Node)
 unfolding refusal
 refusal-append b v xs ys =
     rw (list_any-append (is_idle b v) xs ys, length-append xs ys) (grind (arith, nat_tests))
+
+pub worse-none : (fault : Option Osi) → worse fault None ≡ fault
+worse-none None = refl
+worse-none (Some Invalid) = refl
+worse-none (Some Denied) = refl
 
 -- One child of a tree ----------------------------------------------------------------------------
 

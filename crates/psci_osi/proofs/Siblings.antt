@@ -6,8 +6,7 @@ use Rattle.std.proofs.lemmas.Bool.{lt-ltb}
 use Rattle.std.proofs.lemmas.Option.{cond_some}
 use Rattle.psci_board.specs.declared.node.Node.{Node}
 use Rattle.psci_board.specs.Board.{BoardValue, HasNodeIn, child, children, first_child}
-use Rattle.psci_board.specs.Laws.{ChildLaws, ParentLaws}
-use Rattle.psci_tree.specs.Below.{IsBelow}
+use Rattle.psci_board.specs.Laws.{ChildLaws}
 
 -- the child of a number stands so many places behind the first
 pub nth_child : (b : BoardValue) (n f : Node) (k : ℕ) → child b n 0 ≡ Some f → k < children b n
@@ -19,21 +18,13 @@ nth_child b n f k e h =
     omega (arith, ap (λ (x : Node). x.place) is) in
     rw (lt-ltb k (children b n) h, level, place) refl
 
--- a child is below its domain on each board with these levels
-pub is_below : (b : BoardValue) (levels : List (List ℕ)) (n m : Node) (k : ℕ) → levels ≡ b.levels
-    → ChildLaws b → ParentLaws b → child b n k ≡ Some m → IsBelow levels b n m k
-is_below b levels n m k same cs ps e = record {
-  same = same;
-  node = subst (λ ls. HasNodeIn ls m) (sym same) (cs.child_node n m k e);
-  parent = ps.of_child n m k e;
-  number = ps.number n m k e;
-}
-
--- and so is the one that stands so many places behind the first
-pub sibling : (b : BoardValue) (levels : List (List ℕ)) (n f : Node) (k : ℕ) → levels ≡ b.levels
-    → ChildLaws b → ParentLaws b → child b n 0 ≡ Some f → k < children b n
-    → IsBelow levels b n (record { level = f.level; place = f.place + k }) k
-sibling b levels n f k same cs ps e h = is_below b levels n _ k same cs ps (nth_child b n f k e h)
+-- and is a domain of each tree with the levels of the board
+pub has_child : (b : BoardValue) (levels : List (List ℕ)) (n f : Node) (k : ℕ) → levels ≡ b.levels
+    → ChildLaws b → child b n 0 ≡ Some f → k < children b n
+    → HasNodeIn levels (record { level = f.level; place = f.place + k })
+has_child b levels n f k same laws e h =
+    subst (λ ls. HasNodeIn ls (record { level = f.level; place = f.place + k })) (sym same)
+    (laws.child_node n _ k (nth_child b n f k e h))
 
 -- a domain without a first child has none
 pub none_first : (b : BoardValue) (n : Node) → child b n 0 ≡ None → children b n ≡ 0

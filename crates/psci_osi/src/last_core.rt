@@ -2,13 +2,13 @@
 
 ghost use Rattle.std.specs.Prelude.{◌≡◌, ◌≢◌, ◌<◌, ◌≤◌};
 ghost use Rattle.psci_board.specs.Board.{HasNodeIn, IsBoard, cores};
-ghost use Rattle.psci_tree.specs.Recount.{granted_at};
+ghost use Rattle.psci_tree.specs.Recount.{active, granted_at};
 ghost use Rattle.psci_messages.specs.LastCore.{elsewhere, children_of, granted_less};
 ghost use Rattle.psci_messages.specs.LastCore.{last_core_check, refusal, shallow};
 ghost use Rattle.psci_messages.specs.Looked.{view_of};
 ghost use Rattle.psci_osi.specs.Worse.{worse};
 
-use psci_board::{Board, Core, Node, law_children, law_parents, law_sizes};
+use psci_board::{Board, Core, Node, law_children, law_sizes};
 use psci_coord::own_parts;
 use psci_messages::{Osi, Parts};
 use psci_state::Ask;
@@ -45,7 +45,6 @@ pub fn path_refusal(tree: &Tree, board: &Board, core: Core, ask: Ask) -> Option<
 }
 
 /// Why a request for this depth of a domain is refused by its children that do not have this place.
-/// The domains below it are found by one way down.
 fn level_refusal(tree: &Tree, board: &Board, above: Node, own: u16, depth: u8) -> Option<Osi>
     requires board { tree.now.levels ≡ board.now.levels }
     requires valid { IsBoard board.now }
@@ -54,35 +53,35 @@ fn level_refusal(tree: &Tree, board: &Board, above: Node, own: u16, depth: u8) -
 {
     law_sizes();
     law_children();
-    law_parents();
     let Some(first) = board.child(above, 0) else {
         return None;
     };
-    let below = tree.below(above);
     let mut fault = None;
     for number in 0..board.children(above) {
         let child = Node {
             level: first.level,
             place: first.place + number as u16,
         };
-        let active = below[number as usize].active();
-        fault = worse(fault, child_refusal(tree, child, active, own, depth));
+        // Mostly a child refuses nothing, and the reason so far stays in its place.
+        if let Some(reason) = child_refusal(tree, child, own, depth) {
+            fault = worse(fault, Some(reason));
+        }
     }
     fault
 }
 
-/// Why a request for this depth of a domain is refused by this child, below which so many cores are
-/// active: it is neither on the path nor was it granted as much.
-fn child_refusal(tree: &Tree, child: Node, many: u32, own: u16, depth: u8) -> Option<Osi>
+/// Why a request for this depth of a domain is refused by this child: it is neither on the path nor
+/// was it granted as much.
+fn child_refusal(tree: &Tree, child: Node, own: u16, depth: u8) -> Option<Osi>
     requires { HasNodeIn tree.now.levels child }
     ensures own { child.place ≡ own → result ≡ None }
     ensures deep { child.place ≢ own → depth ≤ granted_at tree.now child.level child.place
         → result ≡ None }
     ensures idle { child.place ≢ own → granted_at tree.now child.level child.place < depth
-        → many ≡ 0
+        → active tree.now child ≡ 0
         → result ≡ Some Osi.Invalid }
     ensures busy { child.place ≢ own → granted_at tree.now child.level child.place < depth
-        → many ≢ 0
+        → active tree.now child ≢ 0
         → result ≡ Some Osi.Denied }
 {
     if child.place == own {
@@ -91,7 +90,7 @@ fn child_refusal(tree: &Tree, child: Node, many: u32, own: u16, depth: u8) -> Op
     if tree.granted(child) >= depth {
         return None;
     }
-    if many == 0 {
+    if tree.active(child) == 0 {
         Some(Osi::Invalid)
     } else {
         Some(Osi::Denied)

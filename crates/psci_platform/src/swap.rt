@@ -1,21 +1,62 @@
 //! A boot core that is not the first one of the tree, and the swap that gives it number 0.
 
-ghost use Rattle.std.specs.Prelude.{◌≡◌, ◌≤◌, ◌<◌, true, Some};
+ghost use Rattle.std.specs.Prelude.{◌≡◌, ℕ, ◌+◌, ◌≤◌, ◌<◌, true, None, Some, length};
+ghost use Rattle.std.specs.Prelude.{slice_index_or};
 ghost use Rattle.std.specs.List.{list_all, range_with_len};
 ghost use Rattle.psci_board.specs.Board.{HasNode, cores, domain_of, height, parent};
 ghost use Rattle.psci_fw_laws.specs.Renumbered.{swap};
 ghost use Rattle.psci_platform.specs.Swaps.{goes_along, is_on_path, is_swapped, is_symmetric};
-ghost use Rattle.psci_platform.specs.Swaps.{moved, moved_in, number_of, other_number, swap_for};
+ghost use Rattle.psci_platform.specs.Swaps.{moved, number_of, other_number, swap_for};
 
-use psci_board::{Board, Core, MOST_LEVELS, Node, law_parents, law_paths, law_sizes};
+use psci_board::{Board, Core, MOST_LEVELS, MOST_ON_PATH, Node, law_parents, law_paths, law_sizes};
 
-/// The node at the other place.
+/// A node, and each domain above it.
+#[derive(Clone, Copy)]
+struct WayUp {
+    /// The node, its parent and so on, up to the system; behind them the node again.
+    nodes: [Node; MOST_ON_PATH],
+    /// Where the system stands among them: how many domains are above the node.
+    top: usize,
+}
+
+/// The node at the other place: from the system down, each domain's child of the other number.
 #[tactic(auto, unfolding(crate::specs::Swaps::moved))]
 pub fn moved(board: &Board, boot: Core, node: Node) -> Node
     requires { boot.number < cores board.now }
     ensures { result ≡ moved board.now boot.number node }
 {
-    moved_in(board, boot, MOST_LEVELS as u32, node)
+    let way = way_up(board, node);
+    let mut other = way.nodes[way.top];
+    for step in 0..way.top {
+        let place = way.top - 1 - step;
+        let number = other_number(board, boot, way.nodes[place + 1], way.nodes[place]);
+        other = board.child(other, number).unwrap_or(way.nodes[place]);
+    }
+    other
+}
+
+/// The way from a node up to the system.
+fn way_up(board: &Board, node: Node) -> WayUp
+    ensures first { slice_index_or result.nodes 0 node ≡ node }
+    ensures long { length result.nodes ≡ 4 }
+    ensures most { result.top ≤ 3 }
+    ensures parents { (place : ℕ) → place < result.top
+        → parent board.now (slice_index_or result.nodes place node)
+        ≡ Some (slice_index_or result.nodes (place + 1) node) }
+    ensures last { result.top < 3
+        → parent board.now (slice_index_or result.nodes result.top node) ≡ None }
+{
+    let mut nodes = [node; MOST_ON_PATH];
+    for top in 0..MOST_LEVELS {
+        match board.parent(nodes[top]) {
+            None => return WayUp { nodes, top },
+            Some(above) => nodes[top + 1] = above,
+        }
+    }
+    WayUp {
+        nodes,
+        top: MOST_LEVELS,
+    }
 }
 
 /// The core of the other number. It takes no step where core 0 boots.
@@ -34,24 +75,6 @@ pub fn other_core(board: &Board, boot: Core, core: Core) -> Core
     }
     Core {
         number: moved(board, boot, core.node()).place,
-    }
-}
-
-/// The node at the other place, of a tree with so many levels above it.
-fn moved_in(board: &Board, boot: Core, levels: u32, node: Node) -> Node
-    requires { boot.number < cores board.now }
-    ensures { result ≡ moved_in board.now boot.number levels node }
-{
-    if levels == 0 {
-        return node;
-    }
-    match board.parent(node) {
-        Some(above) => {
-            let number = other_number(board, boot, above, node);
-            let above = moved_in(board, boot, levels - 1, above);
-            board.child(above, number).unwrap_or(node)
-        }
-        None => node,
     }
 }
 

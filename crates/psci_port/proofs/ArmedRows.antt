@@ -1,14 +1,27 @@
 -- Worked examples: a core that is armed carries out what there is with the lock in hand, its own
 -- Down, what another core left of one, and its own wake-up.
-use Rattle.std.proofs.Common.{◌≡◌, ◌∷◌, ◌++◌, [], Bool, false, refl, List, None, Option, Some}
-use Rattle.std.proofs.Common.{true, ℕ}
-use Rattle.psci_port.specs.Stages.{Stage, Standing, AtDoor, Normal, Leaving, Armed, Woken, risen}
+use Rattle.std.proofs.Common.{◌≡◌, ◌∷◌, ◌++◌, [], ap, arith, Bool, false, refl, List, None, Option}
+use Rattle.std.proofs.Common.{Some, true, ℕ}
+use Rattle.std.proofs.lemmas.Bool.{false≢true}
+use Rattle.std.proofs.lemmas.Option.{none-some}
+use Rattle.psci_ctl_spec.specs.psci_messages.declared.kind.Kind.TheVariants.{Down}
+use Rattle.psci_ctl_spec.specs.psci_messages.declared.start.Cause.TheVariants as causes
+use Rattle.psci_ctl_spec.specs.declared.call.CtlCall.{CtlCall}
+use Rattle.psci_ctl_spec.specs.declared.call.CtlCall.TheVariants as asked
+use Rattle.psci_world_spec.proofs.Scripts.{board, part}
+use Rattle.psci_port.specs.Rules.{May}
+use Rattle.psci_port.specs.Stages.{Stage, Standing, AtDoor, Entering, Normal, Leaving, Armed, Woken}
+use Rattle.psci_port.specs.Stages.{is_armed, is_started, roused_at, started_at}
 use Rattle.psci_port.specs.Port.{Act, Locks, Unlocks, Finishes, Stands, Arms, Sleeps, Cuts, Rouses}
-use Rattle.psci_port.specs.Port.{Rises, Turns, Wakes, stage_at}
+use Rattle.psci_port.specs.Port.{Resets, Rises, TakesUp, Turns, Wakes, stage_at, words}
+use Rattle.psci_port.specs.Stages.{stage_by}
+use Rattle.psci_port.specs.Waiting.{waits}
 use Rattle.psci_port.proofs.CellRows.{both_come, life_1, off_by}
 use Rattle.psci_port.proofs.Playing.{Powered, after, asks, comes, delivers, door, failing, off_3}
 use Rattle.psci_port.proofs.Playing.{off_called, on_3, playing}
 use Rattle.psci_port.proofs.PortRows.{shown}
+use Rattle.psci_port.proofs.RestRows.{start_of}
+use Rattle.psci_port.proofs.RuleRows.{of_3}
 
 -- a core that is armed loses its power before its WFI, and so does its cluster
 armed_and_cut : failing (off_called ++ (Arms 3 ∷ delivers 1 ∷ Cuts 0 3 ∷ [])) ≡ Powered ∷ []
@@ -180,7 +193,86 @@ nothing_fails_while_it_wakes : failing (off_called ++ (Arms 3 ∷ Rises 3 ∷ []
 unfolding playing
 nothing_fails_while_it_wakes = refl
 
--- what its own wake-up leaves of each stage
-each_risen : (risen Standing ≡ Standing) × (risen AtDoor ≡ Woken) × (risen Normal ≡ Normal)
-    × (risen Leaving ≡ Leaving) × (risen Armed ≡ Armed) × (risen Woken ≡ Woken)
-each_risen = (refl, refl, refl, refl, refl, refl)
+-- Started meanwhile ------------------------------------------------------------------------------
+
+-- what a start leaves of each stage
+each_started : (started_at Standing ≡ AtDoor) × (started_at AtDoor ≡ AtDoor)
+    × (started_at (Entering (start_of 1 2)) ≡ AtDoor) × (started_at Normal ≡ AtDoor)
+    × (started_at Leaving ≡ AtDoor) × (started_at Armed ≡ Woken) × (started_at Woken ≡ Woken)
+each_started = (refl, refl, refl, refl, refl, refl, refl)
+
+-- and an interrupt
+each_roused : (roused_at Standing ≡ Armed) × (roused_at AtDoor ≡ Woken)
+    × (roused_at (Entering (start_of 1 2)) ≡ Entering (start_of 1 2)) × (roused_at Normal ≡ Normal)
+    × (roused_at Leaving ≡ Leaving) × (roused_at Armed ≡ Armed) × (roused_at Woken ≡ Woken)
+each_roused = (refl, refl, refl, refl, refl, refl, refl)
+
+each_is_started : (is_started Standing ≡ false) × (is_started AtDoor ≡ true)
+    × (is_started (Entering (start_of 1 2)) ≡ false) × (is_started Normal ≡ false)
+    × (is_started Leaving ≡ false) × (is_started Armed ≡ false) × (is_started Woken ≡ true)
+each_is_started = (refl, refl, refl, refl, refl, refl, refl)
+
+-- but a core that is reset is at its door
+each_cause : (stage_by causes.Boot Armed ≡ Woken) × (stage_by causes.On Armed ≡ Woken)
+    × (stage_by causes.Wake Armed ≡ Woken) × (stage_by causes.Reset Armed ≡ AtDoor)
+each_cause = (refl, refl, refl, refl)
+
+reset_while_armed : shown (roused ++ (Resets 3 ∷ []))
+    ≡ record { stage = AtDoor; depth = 0; cut = false; lock = None }
+unfolding playing
+reset_while_armed = refl
+
+-- others start it between the interrupt and the lock, or before the interrupt
+abbrev started_meanwhile : List Act
+started_meanwhile = roused ++ (Wakes 3 ∷ [])
+
+is_woken : (shown started_meanwhile
+    ≡ record { stage = Woken; depth = 0; cut = false; lock = None })
+    × (shown (off_3 ++ (delivers 1 ∷ Wakes 3 ∷ Rouses 3 ∷ []))
+    ≡ record { stage = Woken; depth = 0; cut = false; lock = None })
+unfolding playing
+is_woken = (refl, refl)
+
+-- it takes the lock all the same
+locks_all_the_same : May board (after started_meanwhile) (Locks 3)
+unfolding playing
+locks_all_the_same = (omega arith, refl, refl)
+
+-- its wake-up waits there, and so does a Down of its new start
+abbrev waits_locked : CtlCall → Bool
+waits_locked call =
+    let p = after (started_meanwhile ++ (Locks 3 ∷ [])) in waits board p.values (words p) call
+
+waits_there : (waits_locked (asked.Wake (record { number = 3 }) 1) ≡ true)
+    × (waits_locked (asked.Deliver (of_3 Down 2 (part 0 3 2 ∷ []))) ≡ true)
+unfolding playing
+waits_there = (refl, refl)
+
+rises_no_more : May board (after (started_meanwhile ++ (Locks 3 ∷ []))) (Rises 3) → ⊥
+unfolding playing
+rises_no_more may = false≢true (ap is_armed may.1)
+
+-- it gives the lock back, turns to its door, and enters; or goes there at once
+comes_then : (failing (started_meanwhile ++ (Locks 3 ∷ Unlocks 3 ∷ Turns 3 ∷ []) ++ door 3
+    ++ comes 3) ≡ [])
+    × (failing (started_meanwhile ++ door 3 ++ comes 3) ≡ [])
+unfolding playing
+comes_then = (refl, refl)
+
+takes_up_at_once : May board (after (started_meanwhile ++ door 3)) (TakesUp 3)
+unfolding playing
+takes_up_at_once = (refl, refl, refl, λ at. none-some 3 at)
+
+takes_up_with_the_lock : May board (after (started_meanwhile ++ (Locks 3 ∷ []) ++ door 3))
+    (TakesUp 3) → ⊥
+unfolding playing
+takes_up_with_the_lock may = may.3 refl
+
+turns_with_the_lock : May board (after (started_meanwhile ++ (Locks 3 ∷ []))) (Turns 3) → ⊥
+unfolding playing
+turns_with_the_lock may = may.1 refl
+
+-- it executes, and its power stays
+cut_under_it : failing (started_meanwhile ++ (Locks 3 ∷ Cuts 0 3 ∷ [])) ≡ Powered ∷ []
+unfolding playing
+cut_under_it = refl

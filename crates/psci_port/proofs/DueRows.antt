@@ -60,7 +60,7 @@ unfolding playing
 core_3_comes_in = record {
   writes = (refl, (omega arith, refl));
   opens = (refl, (omega arith, refl));
-  takes_up = ((refl, refl, refl), omega arith);
+  takes_up = ((refl, refl, refl, free 3), omega arith);
   locks = ((omega arith, refl, refl), refl);
   enters = ((omega arith, (refl, refl), (again 1, refl)), tt);
 }
@@ -70,7 +70,7 @@ unfolding playing
 boot_core_comes_in = record {
   writes = (refl, (omega arith, refl));
   opens = (refl, (omega arith, refl));
-  takes_up = ((refl, refl, refl), omega arith);
+  takes_up = ((refl, refl, refl, free 0), omega arith);
   locks = ((omega arith, refl, refl), refl);
   enters = ((omega arith, (refl, refl), (again 1, refl)), tt);
 }
@@ -80,7 +80,7 @@ unfolding playing
 core_3_comes_in_life_2 = record {
   writes = (refl, (omega arith, refl));
   opens = (refl, (omega arith, refl));
-  takes_up = ((refl, refl, refl), omega arith);
+  takes_up = ((refl, refl, refl, free 3), omega arith);
   locks = ((omega arith, refl, refl), refl);
   enters = ((omega arith, (refl, refl), (again 2, refl)), tt);
 }
@@ -90,7 +90,7 @@ unfolding playing
 boot_core_comes_in_life_2 = record {
   writes = (refl, (omega arith, refl));
   opens = (refl, (omega arith, refl));
-  takes_up = ((refl, refl, refl), omega arith);
+  takes_up = ((refl, refl, refl, free 0), omega arith);
   locks = ((omega arith, refl, refl), refl);
   enters = ((omega arith, (refl, refl), (again 2, refl)), tt);
 }

@@ -1,6 +1,7 @@
 pub mod Rows
 pub mod Own
 pub mod Started
+pub mod Held
 pub mod Power
 pub mod Locks
 pub mod Keeping
@@ -12,12 +13,16 @@ pub mod Rebooting
 pub mod Mirrors
 pub mod Truth
 pub mod Shown
+pub mod Sums
 pub mod Weighing
 pub mod Lowering
 pub mod Valued
 pub mod Quiet
 pub mod Heard
 pub mod Served
+pub mod Undoing
+pub mod Undone
+pub mod Staying
 -- Worked examples.
 mod CellRows
 mod Playing
@@ -26,7 +31,10 @@ mod DueRows
 mod LifeRows
 mod QuietRows
 mod RebootRows
-mod ServedRows
+pub mod ServedRows
+mod UndoneRows
+pub mod LessRows
+pub mod ListedRows
 mod ArmedRows
 mod RestRows
 mod RuleRows

@@ -30,7 +30,7 @@ use Rattle.psci_port.specs.Rules.{IsPortRun}
 use Rattle.psci_port.specs.Resting.{IsDue, call_left, has_lock, left, own_left, stage_left}
 use Rattle.psci_port.proofs.Own.{open_last}
 use Rattle.psci_port.proofs.Locks.{Fits, not_inside}
-use Rattle.psci_port.proofs.Keeping.{IsKept, looks_apart}
+use Rattle.psci_port.proofs.Keeping.{IsKept}
 use Rattle.psci_port.proofs.Running.{run_kept}
 use Rattle.psci_port.proofs.Mirrors.{IsDue as IsSaid, IsMirror}
 use Rattle.psci_port.proofs.Shown.{shown_itself}
@@ -195,11 +195,9 @@ module _ (b : BoardValue) (p : Port) (kept : IsKept p) (mirror : IsMirror b p)
       subst (λ o. left b (finished p c o) < left b p) (sym due.0.1)
       (finishes_lowers c due.0.0 due.1 due.0.1)
   lowers (TakesUp c) due =
-      let lacking : p.lock ≡ Some c → ⊥ =
-      λ held. looks_apart (stage_at p c) due.0.0 (kept.held.holder c held) in
       let opens : (p.row c).opened ≡ p.values.starts c =
       open_last _ _ (p.row c) (kept.rows c) due.0.1 due.0.2 in
-      start_lowers b p c due.1 (none_inside c lacking) opens
+      start_lowers b p c due.1 (none_inside c due.0.3) opens
       (λ same. false≢true (sym due.0.2
       ∙ eq-eqb (p.row c).opened (p.row c).used (opens ∙ sym same)))
   lowers (Stands c) due =

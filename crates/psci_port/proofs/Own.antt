@@ -6,66 +6,57 @@ use Rattle.std.proofs.lemmas.Bool.Decides.{nat_tests}
 use Rattle.psci_ctl_spec.specs.psci_messages.declared.start.Start.{Start}
 use Rattle.psci_world_spec.specs.declared.said.Record.{Record}
 use Rattle.psci_port.specs.Stages.{Stage, Standing, AtDoor, Entering, Normal, Leaving, Armed}
-use Rattle.psci_port.specs.Stages.{Woken, has_stopped, is_armed, is_inside, place_of, risen}
+use Rattle.psci_port.specs.Stages.{Woken, has_stopped, is_inside, is_started, place_of, roused_at}
 use Rattle.psci_port.specs.Stages.{stage_in}
 use Rattle.psci_port.specs.Port.{Row, stopping}
-use Rattle.psci_port.proofs.Rows.{IsRow, entering_by, enters_not, is_started}
+use Rattle.psci_port.proofs.Rows.{IsRow, entering_by, enters_not}
 
--- Its own wake-up --------------------------------------------------------------------------------
+-- An interrupt ---------------------------------------------------------------------------------
 
-pub risen_stops : (y : Stage) → has_stopped (risen y) ≡ has_stopped y
-risen_stops Standing = refl
-risen_stops AtDoor = refl
-risen_stops (Entering s) = refl
-risen_stops Normal = refl
-risen_stops Leaving = refl
-risen_stops Armed = refl
-risen_stops Woken = refl
+pub roused_stops : (y : Stage) → has_stopped (roused_at y) ≡ has_stopped y
+roused_stops Standing = refl
+roused_stops AtDoor = refl
+roused_stops (Entering s) = refl
+roused_stops Normal = refl
+roused_stops Leaving = refl
+roused_stops Armed = refl
+roused_stops Woken = refl
 
-pub risen_inside : (y : Stage) → is_inside (risen y) ≡ is_inside y
-risen_inside Standing = refl
-risen_inside AtDoor = refl
-risen_inside (Entering s) = refl
-risen_inside Normal = refl
-risen_inside Leaving = refl
-risen_inside Armed = refl
-risen_inside Woken = refl
+roused_inside : (y : Stage) → is_inside (roused_at y) ≡ is_inside y
+roused_inside Standing = refl
+roused_inside AtDoor = refl
+roused_inside (Entering s) = refl
+roused_inside Normal = refl
+roused_inside Leaving = refl
+roused_inside Armed = refl
+roused_inside Woken = refl
 
-pub risen_arms : (y : Stage) → is_armed (risen y) ≡ is_armed y
-risen_arms Standing = refl
-risen_arms AtDoor = refl
-risen_arms (Entering s) = refl
-risen_arms Normal = refl
-risen_arms Leaving = refl
-risen_arms Armed = refl
-risen_arms Woken = refl
+pub roused_place : (y : Stage) → place_of y ≡ place_of (roused_at y)
+roused_place Standing = refl
+roused_place AtDoor = refl
+roused_place (Entering s) = refl
+roused_place Normal = refl
+roused_place Leaving = refl
+roused_place Armed = refl
+roused_place Woken = refl
 
-pub risen_place : (y : Stage) → place_of y ≡ place_of (risen y)
-risen_place Standing = refl
-risen_place AtDoor = refl
-risen_place (Entering s) = refl
-risen_place Normal = refl
-risen_place Leaving = refl
-risen_place Armed = refl
-risen_place Woken = refl
+roused_starts : (y : Stage) → is_started (roused_at y) ≡ is_started y
+roused_starts Standing = refl
+roused_starts AtDoor = refl
+roused_starts (Entering s) = refl
+roused_starts Normal = refl
+roused_starts Leaving = refl
+roused_starts Armed = refl
+roused_starts Woken = refl
 
-risen_starts : (y : Stage) → is_started (risen y) ≡ is_started y
-risen_starts Standing = refl
-risen_starts AtDoor = refl
-risen_starts (Entering s) = refl
-risen_starts Normal = refl
-risen_starts Leaving = refl
-risen_starts Armed = refl
-risen_starts Woken = refl
-
-risen_enters : (y : Stage) (t : Start) → risen y ≡ Entering t → y ≡ Entering t
-risen_enters Standing t e = e
-risen_enters AtDoor t e = absurd (enters_not Woken t refl e)
-risen_enters (Entering s) t e = e
-risen_enters Normal t e = e
-risen_enters Leaving t e = e
-risen_enters Armed t e = e
-risen_enters Woken t e = e
+roused_enters : (y : Stage) (t : Start) → roused_at y ≡ Entering t → y ≡ Entering t
+roused_enters Standing t e = absurd (enters_not Armed t refl e)
+roused_enters AtDoor t e = absurd (enters_not Woken t refl e)
+roused_enters (Entering s) t e = e
+roused_enters Normal t e = e
+roused_enters Leaving t e = e
+roused_enters Armed t e = e
+roused_enters Woken t e = e
 
 -- A core's own acts ------------------------------------------------------------------------------
 
@@ -138,23 +129,7 @@ module _ (s : ℕ) (l : Option Start) (r : Row) (is : IsRow s l r) where
     closed = is.closed;
   }
 
-  -- it comes back out of its wait
-  pub rouses_is : r.stage ≡ Standing → IsRow s l (record r { stage = Armed })
-  rouses_is at = record {
-    stood = is.stood;
-    used = is.used;
-    opened = is.opened;
-    shows = is.shows;
-    last = is.last;
-    still = λ e. is.still (ap has_stopped at);
-    stands = λ e. refl;
-    inside = λ e. absurd (false≢true e);
-    taken = λ t e. absurd (enters_not Armed t refl e);
-    ahead = λ e some. absurd (false≢true e);
-    closed = is.closed;
-  }
-
-  -- it woke itself, and goes to its door
+  -- it was armed, and goes to its door
   pub turns_is : r.stage ≡ Woken → IsRow s l (record r { stage = AtDoor })
   turns_is at = record {
     stood = is.stood;
@@ -170,19 +145,19 @@ module _ (s : ℕ) (l : Option Start) (r : Row) (is : IsRow s l r) where
     closed = is.closed;
   }
 
-  -- it wakes itself
-  pub rises_is : IsRow s l (record r { stage = risen r.stage })
-  rises_is = record {
+  -- it comes back out of its wait
+  pub rouses_is : IsRow s l (record r { stage = roused_at r.stage })
+  rouses_is = record {
     stood = is.stood;
     used = is.used;
     opened = is.opened;
     shows = is.shows;
     last = is.last;
-    still = λ e. is.still (sym (risen_stops r.stage) ∙ e);
-    stands = λ e. risen_stops r.stage ∙ is.stands e;
-    inside = λ e. is.inside (sym (risen_inside r.stage) ∙ e);
-    taken = λ t e. is.taken t (risen_enters r.stage t e);
-    ahead = λ e. is.ahead (sym (risen_starts r.stage) ∙ e);
+    still = λ e. is.still (sym (roused_stops r.stage) ∙ e);
+    stands = λ e. roused_stops r.stage ∙ is.stands e;
+    inside = λ e. is.inside (sym (roused_inside r.stage) ∙ e);
+    taken = λ t e. is.taken t (roused_enters r.stage t e);
+    ahead = λ e. is.ahead (sym (roused_starts r.stage) ∙ e);
     closed = is.closed;
   }
 

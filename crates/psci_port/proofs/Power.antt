@@ -19,6 +19,7 @@ use Rattle.psci_ctl_spec.proofs.Sums.{path_place}
 use Rattle.psci_port.specs.Stages.{Stage, Standing, AtDoor, Entering, Normal, Leaving, Armed}
 use Rattle.psci_port.specs.Stages.{Woken, executes, has_stopped, is_armed}
 use Rattle.psci_port.specs.Port.{Row, blank, cut_by, first_cut, first_row, row_by, started}
+use Rattle.psci_port.proofs.Rows.{once_started}
 use Rattle.psci_port.proofs.Started.{down_core, down_parts}
 
 -- What was taken down, and what of it has no power: w says which cores have not said that they
@@ -126,7 +127,8 @@ module _ (b : BoardValue) (v : Values) (row : ℕ → Row) (cut : ℕ → ℕ �
   start_armed : (d c : ℕ) (cause : Cause) (t : Bool)
       → is_armed (cond t (started cause (row c)) (row c)).stage ≡ true
       → arms row c ≡ true
-  start_armed d c cause true e = absurd (false≢true e)
+  start_armed d c cause true e = absurd (false≢true
+      (sym (once_started (λ y. is_armed y ≡ false) refl refl cause (row c).stage) ∙ e))
   start_armed d c cause false e = e
 
   start_powered : (d : ℕ) (cause : Cause)

@@ -27,15 +27,15 @@ use Rattle.psci_world_spec.specs.declared.said.Said.TheVariants.{Fw, Kick, Acked
 use Rattle.psci_world_spec.specs.declared.said.Said.TheVariants.{Taken as Took}
 use Rattle.psci_port.specs.Waiting.{waits}
 use Rattle.psci_port.specs.Stages.{AtDoor, Standing, Armed}
-use Rattle.psci_port.specs.Stages.{has_stopped, is_armed, risen, stage_after, stage_in}
+use Rattle.psci_port.specs.Stages.{has_stopped, is_armed, roused_at, stage_after, stage_in}
 use Rattle.psci_port.specs.Port.{Port, Row, Act, Locks, Unlocks, Calls, Enters, Takes, Finishes}
 use Rattle.psci_port.specs.Port.{TakesUp, Stands, Arms, Sleeps, Delivers, Wakes, Resets, Writes}
 use Rattle.psci_port.specs.Port.{Rouses, Rises, Turns, Opens, Cuts, Restarts, Reboots, cold}
-use Rattle.psci_port.specs.Port.{commanded, ended, finished, gone_to, rising, roused, stage_at}
-use Rattle.psci_port.specs.Port.{state, step, stopping, taking_up, with_row, woken, words}
+use Rattle.psci_port.specs.Port.{commanded, ended, finished, rising, roused, stage_at}
+use Rattle.psci_port.specs.Port.{state, step, stopping, taking_up, with_row, words}
 use Rattle.psci_port.specs.Rules.{IsPortRun, May, NoneArmed}
 use Rattle.psci_port.specs.Kept.{NoneCut}
-use Rattle.psci_port.proofs.Own.{open_moves, risen_arms, risen_stops}
+use Rattle.psci_port.proofs.Own.{open_moves, roused_stops}
 use Rattle.psci_port.proofs.Started.{all_down, down_core}
 use Rattle.psci_port.proofs.Locks.{Fits}
 use Rattle.psci_port.proofs.Power.{IsPowered, all_awake, arms, effect_powered, executing_powered}
@@ -106,14 +106,10 @@ module _ (b : BoardValue) (p : Port) (is : Powered b p) where
       (λ k has low a. moving_powered b p.values p.row p.cut is c k has low
       (on (has_stopped (stage_at p c)) moving))
 
-  risen_powered : (c : ℕ) → Powered b (gone_to p c (risen (stage_at p c)))
-  risen_powered c = row_powered c (record (p.row c) { stage = risen (stage_at p c) })
-      (λ e. ap not (risen_stops (stage_at p c)) ∙ e)
-      (λ k has low a. is.spared c k has low (sym (risen_arms (stage_at p c)) ∙ a))
-
   -- it comes back out of its wait
   roused_spared : (c x k : ℕ) (t : Bool) → (x == c) ≡ t → x < cores b → k ≤ height b
-      → is_armed (cond t (record (p.row c) { stage = Armed }) (p.row x)).stage ≡ true
+      → is_armed (cond t (record (p.row c) { stage = roused_at (stage_at p c) }) (p.row x)).stage
+      ≡ true
       → cond (is_on_path b c k (up b k x)) false (p.cut k (up b k x)) ≡ false
   roused_spared c x k true e has low a =
       let same : x ≡ c = eqb-true x c e in
@@ -132,7 +128,7 @@ module _ (b : BoardValue) (p : Port) (is : Powered b p) where
 
   roused_powered : (c : ℕ) → Powered b (roused b p c)
   roused_powered c = record {
-    alone = λ x has deep. roused_alone x (x == c) (is.alone x has deep);
+    alone = λ x has deep. roused_alone x (x == c) refl (is.alone x has deep);
     nested = is.nested;
     told = λ k place cut.
         roused_told (is_on_path b c k place) (p.cut k place) (p.values.depth k place)
@@ -140,10 +136,12 @@ module _ (b : BoardValue) (p : Port) (is : Powered b p) where
     spared = λ x k has low a. roused_spared c x k (x == c) refl has low a;
   }
     where
-      roused_alone : (x : ℕ) (t : Bool) → moves p.row x ≡ false
-          → not (has_stopped (cond t (record (p.row c) { stage = Armed }) (p.row x)).stage) ≡ false
-      roused_alone x true stopped = refl
-      roused_alone x false stopped = stopped
+      roused_alone : (x : ℕ) (t : Bool) → (x == c) ≡ t → moves p.row x ≡ false
+          → not (has_stopped (cond t (record (p.row c) { stage = roused_at (stage_at p c) })
+          (p.row x)).stage) ≡ false
+      roused_alone x true e stopped = ap not (roused_stops (stage_at p c))
+          ∙ subst (λ i. moves p.row i ≡ false) (eqb-true x c e) stopped
+      roused_alone x false e stopped = stopped
 
   sleeps_powered : (c : ℕ) → Powered b (with_row p c (record (p.row c) { stage = Standing }))
   sleeps_powered c = row_powered c (record (p.row c) { stage = Standing }) (λ e. refl)
@@ -225,10 +223,9 @@ module _ (b : BoardValue) (laws : PathLaws b)
   rises_powered : (p : Port) (c : ℕ) → IsKept p → Powered b p → c < cores b
       → stage_at p c ≡ Armed → Powered b (rising b p c)
   rises_powered p c kept is has at =
-      risen_powered b (woken b p c)
-      (commanded_powered p (Wake c) (asked.Wake (record { number = c }) (words p c)) kept is has
+      commanded_powered p (Wake c) (asked.Wake (record { number = c }) (words p c)) kept is has
       (off (words p c == p.values.starts c)
-      (eq-eqb _ _ ((kept.rows c).still (ap has_stopped at))))) c
+      (eq-eqb _ _ ((kept.rows c).still (ap has_stopped at))))
 
   first_all : (before : List (List Record)) → Powered b (cold b before)
   first_all before = first_powered b (start_of_life b) laws refl

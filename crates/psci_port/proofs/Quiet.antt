@@ -12,12 +12,12 @@ use Rattle.psci_ctl_spec.specs.Replies.{last_start, start_shown}
 use Rattle.psci_world_spec.specs.declared.said.Record.{Record}
 use Rattle.psci_world_spec.specs.declared.said.Said.TheVariants.{Absent}
 use Rattle.psci_port.specs.Stages.{Stage, Standing, AtDoor, Entering, Normal, Leaving, Armed, Woken}
-use Rattle.psci_port.specs.Stages.{has_stopped, looks, may_hold}
+use Rattle.psci_port.specs.Stages.{has_stopped, is_started, may_hold}
 use Rattle.psci_port.specs.Port.{Port, Act, Locks, Unlocks, Enters, Finishes, TakesUp, Stands}
 use Rattle.psci_port.specs.Port.{Sleeps, Writes, Turns, Opens, stage_at, words}
 use Rattle.psci_port.specs.Waiting.{touches}
 use Rattle.psci_port.specs.Resting.{IsAtRest, IsDue, IsQuiet, is_entering, is_shown}
-use Rattle.psci_port.proofs.Rows.{IsRow, is_started}
+use Rattle.psci_port.proofs.Rows.{IsRow}
 use Rattle.psci_port.proofs.Keeping.{IsKept}
 use Rattle.psci_port.proofs.Shown.{shown_is}
 
@@ -104,7 +104,7 @@ module _ (b : BoardValue) (p : Port) (kept : IsKept p) (values : AreValues b p.v
         free : (t : Bool) → (p.row c).held ≡ t → (p.row c).opened ≡ p.values.starts c → ⊥
         free true e opens = let a = is.closed e in omega (arith, a, opens)
         free false e opens =
-            still (TakesUp c) ((ap looks at, e, ne_eqb _ _ (new opens)), on)
+            still (TakesUp c) ((ap is_started at, e, ne_eqb _ _ (new opens), none_holds c), on)
 
         shut : (t : Bool) → is_shown (p.row c).door (last_start p.values c) ≡ t
             → ((p.row c).opened == p.values.starts c) ≡ false → ⊥

@@ -47,6 +47,7 @@ use Rattle.psci_world_spec.specs.Places.{place, place_controlled, place_of_effec
 use Rattle.psci_headline.proofs.Finding.{numbered_old}
 use Rattle.psci_port.specs.Stages.{AtDoor, Standing, place_of}
 use Rattle.psci_port.specs.Port.{Row, blank, row_by, started}
+use Rattle.psci_port.proofs.Rows.{once_started}
 
 -- An effect moves a core as the world says.
 pub first_place_is : (t : Bool)
@@ -61,7 +62,7 @@ moves_so c (Starts d cause) r p e = by (c == d)
   where
     by : (t : Bool) → unwrap_or (cond t (Some Started) None) p
         ≡ place_of (cond t (started cause r) r).stage
-    by true = refl
+    by true = once_started (λ y. Started ≡ place_of y) refl refl cause r.stage
     by false = e
 moves_so c (Deepens d ps) r p e = e
 moves_so c Ends r p e = refl

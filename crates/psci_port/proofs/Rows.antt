@@ -13,18 +13,9 @@ use Rattle.psci_ctl_spec.specs.Effects.{Effect, Nothing, Starts, Deepens, Ends, 
 use Rattle.psci_ctl_spec.specs.Replies.{last_start, start_shown}
 use Rattle.psci_ctl_spec.specs.Values.{Values, first_starts}
 use Rattle.psci_port.specs.Stages.{Stage, Standing, AtDoor, Entering, Normal, Leaving, Armed}
-use Rattle.psci_port.specs.Stages.{Woken, has_stopped, is_inside}
+use Rattle.psci_port.specs.Stages.{Woken, has_stopped, is_inside, is_started, started_at}
 use Rattle.psci_port.specs.Port.{Row, blank, first_row, held_by, row_by, started}
-
--- it was started, and has not taken its start up
-abbrev pub is_started : Stage → Bool
-is_started Standing = false
-is_started AtDoor = true
-is_started (Entering s) = false
-is_started Normal = false
-is_started Leaving = false
-is_started Armed = false
-is_started Woken = true
+use Rattle.psci_port.specs.Stages.{stage_by}
 
 pub record IsRow (s : ℕ) (last_one : Option Start) (r : Row) : Type 0 where
   -- it stood in a start that it used, which was opened for it, and counted
@@ -107,6 +98,26 @@ first_is life c = by (c == 0)
 
 -- The power controller's acts --------------------------------------------------------------------
 
+-- what is so at the door, and of a woken core, is so once a core was started
+pub once_started : (P : Stage → Type 0) → P AtDoor → P Woken → (cause : Cause) (y : Stage)
+    → P (stage_by cause y)
+once_started P door woken cause y = by cause
+  where
+    at : (z : Stage) → P (started_at z)
+    at Standing = door
+    at AtDoor = door
+    at (Entering s) = door
+    at Normal = door
+    at Leaving = door
+    at Armed = woken
+    at Woken = woken
+
+    by : (k : Cause) → P (stage_by k y)
+    by causes.Boot = at y
+    by causes.On = at y
+    by causes.Wake = at y
+    by causes.Reset = door
+
 -- a core is started that stands in its last start, or that is held
 started_is : (s : ℕ) (l m : Option Start) (r : Row) (cause : Cause)
     → (held_by cause r.held ≡ false → r.stopped ≡ s) → IsRow s l r
@@ -119,12 +130,15 @@ started_is s l m r cause stood is = record {
   last = λ free differs.
       let a = is.stood in let b = is.used in let c = is.opened in let e = stood free in
       absurd (differs (omega (arith, a, b, c, e)));
-  still = λ e. absurd (false≢true e);
+  still = λ e. absurd (false≢true
+      (sym (once_started (λ y. has_stopped y ≡ false) refl refl cause r.stage) ∙ e));
   stands = λ e.
       let a = is.stood in let b = is.used in let c = is.opened in
       absurd (omega (arith, a, b, c, e));
-  inside = λ e. absurd (false≢true e);
-  taken = λ t e. absurd (enters_not AtDoor t refl e);
+  inside = λ e. absurd (false≢true
+      (sym (once_started (λ y. is_inside y ≡ false) refl refl cause r.stage) ∙ e));
+  taken = λ t e. absurd (enters_not (stage_by cause r.stage) t
+      (once_started (λ y. entering_by y ≡ None) refl refl cause r.stage) e);
   ahead = λ e some. let a = is.used in let b = is.opened in omega (arith, a, b);
   closed = λ e. let b = is.opened in omega (arith, b);
 }

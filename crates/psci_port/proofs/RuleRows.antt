@@ -131,7 +131,7 @@ no_rise_of_a_core_that_runs may = false≢true (ap has_stopped may.1)
 
 no_rouse_of_a_core_that_runs : May board (after off_called) (Rouses 3) → ⊥
 unfolding playing
-no_rouse_of_a_core_that_runs may = false≢true (ap has_stopped may.1)
+no_rouse_of_a_core_that_runs may = false≢true may.1
 
 no_rise_without_the_lock : May board (after (off_called ++ (Arms 3 ∷ Unlocks 3 ∷ []))) (Rises 3)
     → ⊥
@@ -145,7 +145,12 @@ no_turn_with_the_lock may = may.1 refl
 no_start_taken_up_with_the_lock : May board
     (after (off_called ++ (Arms 3 ∷ Rises 3 ∷ []) ++ door 3)) (TakesUp 3) → ⊥
 unfolding playing
-no_start_taken_up_with_the_lock may = false≢true may.0
+no_start_taken_up_with_the_lock may = may.3 refl
+
+no_start_taken_up_in_the_world : May board
+    (with_row (after on_3) 0 (record ((after on_3).row 0) { opened = 2 })) (TakesUp 0) → ⊥
+unfolding playing
+no_start_taken_up_in_the_world may = false≢true may.0
 
 no_wake_with_the_lock : May board (after (off_called ++ (Arms 3 ∷ []))) (Wakes 3) → ⊥
 unfolding playing
@@ -215,7 +220,7 @@ no_turn_of_the_boot_core_with_the_lock may = may.1 refl
 
 no_rouse_of_the_boot_core_that_runs : May board (after off_0) (Rouses 0) → ⊥
 unfolding playing
-no_rouse_of_the_boot_core_that_runs may = false≢true (ap has_stopped may.1)
+no_rouse_of_the_boot_core_that_runs may = false≢true may.1
 
 abbrev off_in_life_2 : List Act
 off_in_life_2 = life_1 ++ both_come 1 ++ off_by 3
@@ -262,7 +267,7 @@ no_life_of_no_board may = let some = may.0.some_starts in omega (arith, some)
 
 opens_its_door : IsPortRun board (TakesUp 0 ∷ Opens 0 ∷ Writes 0 ∷ [])
 unfolding playing
-opens_its_door = ((refl, refl, refl), (refl, (refl, tt)))
+opens_its_door = ((refl, refl, refl, λ at. none-some 0 at), (refl, (refl, tt)))
 
 is_true_so : AreTrue board (TakesUp 0 ∷ Opens 0 ∷ Writes 0 ∷ [])
 unfolding playing

@@ -1,11 +1,10 @@
 -- Each run keeps what holds of the cores and of the lock.
-use Rattle.std.proofs.Common.{◌==◌, ◌∙◌, ◌∷◌, ◌≡◌, [], ap, Bool, cond, false, List, None, Some}
+use Rattle.std.proofs.Common.{◌==◌, ◌∷◌, ◌≡◌, [], ap, Bool, cond, false, List, None, Some}
 use Rattle.std.proofs.Common.{refl, subst, sym, true, ℕ}
 use Rattle.std.specs.Prelude.{not}
 use Rattle.std.proofs.lemmas.Option.{none-some}
-use Rattle.std.proofs.lemmas.Bool.{eq-eqb, eqb-false, false≢true}
+use Rattle.std.proofs.lemmas.Bool.{eq-eqb, false≢true}
 use Rattle.psci_board.specs.Board.{BoardValue}
-use Rattle.psci_ctl_spec.specs.psci_messages.declared.start.Cause.{Cause}
 use Rattle.psci_ctl_spec.specs.psci_messages.declared.start.Cause.TheVariants as causes
 use Rattle.psci_ctl_spec.specs.declared.call.CtlCall.TheVariants as asked
 use Rattle.psci_ctl_spec.specs.declared.kick.Kick.{Kick as Kicked}
@@ -17,7 +16,8 @@ use Rattle.psci_ctl_spec.specs.Replies.{last_start, reply, wake_of}
 use Rattle.psci_world_spec.specs.declared.event.Event.TheVariants.{Call, Enter, Wake, Reset}
 use Rattle.psci_world_spec.specs.declared.event.Event.TheVariants.{Deliver, Take}
 use Rattle.psci_world_spec.specs.declared.said.Record.{Record}
-use Rattle.psci_port.specs.Stages.{Standing, AtDoor, Armed, has_stopped, is_inside, may_hold, risen}
+use Rattle.psci_port.specs.Stages.{Standing, AtDoor, Armed, has_stopped, is_inside, may_hold}
+use Rattle.psci_port.specs.Stages.{roused_at, started_at}
 use Rattle.psci_port.specs.Port.{Port, Row, Act, Locks, Unlocks, Calls, Enters, Takes, Finishes}
 use Rattle.psci_port.specs.Port.{TakesUp, Stands, Arms, Sleeps, Delivers, Wakes, Resets, Writes}
 use Rattle.psci_port.specs.Port.{Rouses, Rises, Turns, Opens, Cuts, Restarts, Reboots, cold}
@@ -26,7 +26,7 @@ use Rattle.psci_port.specs.Port.{started, state, step, stopping, taking_up, woke
 use Rattle.psci_port.specs.Rules.{IsPortRun, May}
 use Rattle.psci_port.specs.Kept.{EachTakesItsLast, IsLocked, TakesItsLast, WordsTell}
 use Rattle.psci_port.proofs.Rows.{first_is}
-use Rattle.psci_port.proofs.Own.{open_last, open_new, opens_is, sleeps_is, rises_is, rouses_is}
+use Rattle.psci_port.proofs.Own.{open_last, open_new, opens_is, sleeps_is, rouses_is}
 use Rattle.psci_port.proofs.Own.{stops_is, takes_up, turns_is, writes_is}
 use Rattle.psci_port.proofs.Started.{delivered_starts, delivered_touches, reset_starts_it}
 use Rattle.psci_port.proofs.Started.{woken_starts}
@@ -55,14 +55,14 @@ still_free Ends = refl
 still_free Begins = refl
 
 -- it may have the lock after that
-risen_holds : (c : ℕ) (cause : Cause) (kick : Kicked) (r : Row) → r.stage ≡ Armed
-    → may_hold (risen (row_by c (kick_effect c cause kick) r).stage) ≡ true
-risen_holds c cause (kicks.Started s) r at = by (c == c)
+woken_holds : (c : ℕ) (kick : Kicked) (r : Row) → r.stage ≡ Armed
+    → may_hold (row_by c (kick_effect c causes.Wake kick) r).stage ≡ true
+woken_holds c (kicks.Started s) r at = by (c == c)
   where
-    by : (t : Bool) → may_hold (risen (cond t (started cause r) r).stage) ≡ true
-    by true = refl
-    by false = ap (λ y. may_hold (risen y)) at
-risen_holds c cause kicks.Ignored r at = ap (λ y. may_hold (risen y)) at
+    by : (t : Bool) → may_hold (cond t (started causes.Wake r) r).stage ≡ true
+    by true = ap (λ y. may_hold (started_at y)) at
+    by false = ap may_hold at
+woken_holds c kicks.Ignored r at = ap may_hold at
 
 module _ (b : BoardValue) (p : Port) (is : IsKept p) (c : ℕ) (at : stage_at p c ≡ Armed)
     (has : p.lock ≡ Some c) (none : (p.row c).begun ≡ None) where
@@ -92,29 +92,16 @@ module _ (b : BoardValue) (p : Port) (is : IsKept p) (c : ℕ) (at : stage_at p 
   free_then = still_free (effect_of b (asked.Wake (record { number = c }) (words p c))
       (reply b p.values (asked.Wake (record { number = c }) (words p c))))
 
-  risen_kept : IsKept (gone_to after_it c (risen (stage_at after_it c)))
-  risen_kept =
-      apart_kept b after_it woken_kept c
-      (record (after_it.row c) { stage = risen (stage_at after_it c) }) refl
-      (λ held. none-some c (sym free_then ∙ held))
-      (rises_is _ _ (after_it.row c) (woken_kept.rows c))
-
-  holds_then : may_hold (risen (stage_at after_it c)) ≡ true
+  holds_then : may_hold (stage_at after_it c) ≡ true
   unfolding reply effect_of
-  holds_then = risen_holds c causes.Wake (wake_of b p.values c (words p c)) (p.row c) at
-
-  holds_there : (t : Bool) → (c == c) ≡ t
-      → may_hold (cond t (record (after_it.row c) { stage = risen (stage_at after_it c) })
-      (after_it.row c)).stage ≡ true
-  holds_there true e = holds_then
-  holds_there false e = absurd (eqb-false c c e refl)
+  holds_then = woken_holds c (wake_of b p.values c (words p c)) (p.row c) at
 
   rises_kept : IsKept (rising b p c)
   rises_kept = record {
-    rows = risen_kept.rows;
+    rows = woken_kept.rows;
     held = subst (λ l. IsHeld l (rising b p c).row (rising b p c).whole) (sym has)
-        (lock_held after_it.lock (rising b p c).row (rising b p c).whole risen_kept.held c
-        free_then (holds_there (c == c) refl));
+        (lock_held after_it.lock (rising b p c).row (rising b p c).whole woken_kept.held c
+        free_then holds_then);
   }
 
 -- Each act ---------------------------------------------------------------------------------------
@@ -139,8 +126,7 @@ step_kept b p (Takes c k said) is may =
 step_kept b p (Finishes c) is may =
     subst (λ o. IsKept (finished p c o)) (sym may.1) (finished_kept b p is c may.0 may.1)
 step_kept b p (TakesUp c) is may =
-    apart_kept b p is c (taking_up (p.row c)) refl
-    (λ has. looks_apart (stage_at p c) may.0 (is.held.holder c has))
+    apart_kept b p is c (taking_up (p.row c)) refl may.3
     (takes_up _ _ (p.row c) (is.rows c) (p.row c).door refl may.1 may.2)
 step_kept b p (Stands c) is may =
     apart_kept b p is c (stopping Standing (p.row c)) refl may.1
@@ -161,10 +147,10 @@ step_kept b p (Resets c) is may =
     commanded_kept b p is (Reset c) (asked.Reset (record { number = c })) refl
     (λ i e. subst (λ j. p.lock ≡ Some j → ⊥) (reset_starts_it b p.values c i e) may.1)
 step_kept b p (Rouses c) is may =
-    let kept : IsKept (gone_to p c Armed) =
-    apart_kept b p is c (record (p.row c) { stage = Armed }) refl
-    (λ has. false≢true (sym (ap may_hold may.1) ∙ is.held.holder c has))
-    (rouses_is _ _ (p.row c) (is.rows c) may.1) in
+    let kept : IsKept (gone_to p c (roused_at (stage_at p c))) =
+    apart_kept b p is c (record (p.row c) { stage = roused_at (stage_at p c) }) refl
+    (λ has. looks_apart (stage_at p c) may.1 (is.held.holder c has))
+    (rouses_is _ _ (p.row c) (is.rows c)) in
     record { rows = kept.rows; held = kept.held }
 step_kept b p (Rises c) is may = rises_kept b p is c may.1 may.2.0 may.2.1
 step_kept b p (Turns c) is may =

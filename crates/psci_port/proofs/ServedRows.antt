@@ -45,7 +45,7 @@ of_none = (refl, refl)
 -- What a delivery more brings about --------------------------------------------------------------
 
 -- each core was started once, and the domains are so deep
-abbrev at_depths : ℕ → (ℕ → ℕ → ℕ) → Values
+abbrev pub at_depths : ℕ → (ℕ → ℕ → ℕ) → Values
 at_depths life depth = record {
   life = Some life;
   starts = λ c. 1;
@@ -54,7 +54,7 @@ at_depths life depth = record {
 }
 
 -- a Down of a core of four that were started once each, with a part of each level
-abbrev down_of : ℕ → ℕ → List Part → MessageValue
+abbrev pub down_of : ℕ → ℕ → List Part → MessageValue
 down_of c life parts = record {
   kind = Down;
   core = record { number = c };
@@ -63,17 +63,17 @@ down_of c life parts = record {
   parts = parts;
 }
 
-abbrev whole : List Part
+abbrev pub whole : List Part
 whole = part 0 3 1 ∷ part 1 3 2 ∷ part 2 3 4 ∷ []
 
-abbrev whole_tall : List Part
+abbrev pub whole_tall : List Part
 whole_tall = part 0 3 1 ∷ part 1 3 1 ∷ part 2 3 2 ∷ part 3 3 4 ∷ []
 
-abbrev out_of_date : List Part
+abbrev pub out_of_date : List Part
 out_of_date = part 0 3 0 ∷ part 1 3 1 ∷ []
 
 -- up to this level each domain is powered down
-abbrev down_to : ℕ → ℕ → ℕ → ℕ
+abbrev pub down_to : ℕ → ℕ → ℕ → ℕ
 down_to most level place = if nat_le level most then 3 else 0
 
 -- all of them but for one cluster, and the system

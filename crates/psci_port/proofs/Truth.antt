@@ -28,17 +28,17 @@ use Rattle.psci_world_spec.specs.Legal.{said_by}
 use Rattle.psci_world_spec.specs.Places.{place}
 use Rattle.psci_headline.specs.Safe.{AlwaysSafe}
 use Rattle.psci_port.specs.Stages.{Stage, Standing, AtDoor, Entering, Normal, Leaving, Armed}
-use Rattle.psci_port.specs.Stages.{Woken, has_stopped, looks, may_hold, place_of, risen, stage_in}
+use Rattle.psci_port.specs.Stages.{Woken, has_stopped, is_started, place_of, roused_at, stage_in}
 use Rattle.psci_port.specs.Port.{Port, Act, Locks, Unlocks, Calls, Enters, Takes, Finishes}
 use Rattle.psci_port.specs.Port.{TakesUp, Stands, Arms, Sleeps, Delivers, Wakes, Resets, Writes}
-use Rattle.psci_port.specs.Port.{Rouses, Rises, Turns, Opens, Cuts, Restarts, Reboots, Row}
+use Rattle.psci_port.specs.Port.{Rouses, Rises, Turns, Opens, Cuts, Restarts, Reboots}
 use Rattle.psci_port.specs.Port.{cold, commanded, finished, going_on, gone_to, lives_of, rising}
 use Rattle.psci_port.specs.Port.{row_by, stage_at, started, state, step, stopping, taking_up}
 use Rattle.psci_port.specs.Port.{told, woken, words}
 use Rattle.psci_port.specs.Rebooted.{rebooted}
 use Rattle.psci_port.specs.Rules.{AreTrue, IsPortRun, IsTrue, May}
 use Rattle.psci_port.specs.Kept.{AreLegal, AreSafe, runs}
-use Rattle.psci_port.proofs.Own.{open_moves, risen_place}
+use Rattle.psci_port.proofs.Own.{roused_place}
 use Rattle.psci_port.proofs.Locks.{first_begun, not_inside}
 use Rattle.psci_port.proofs.Records.{Moves, Names, Spares, deliver_legal}
 use Rattle.psci_port.proofs.Records.{first_place_is, moves, reset_legal, told_spares}
@@ -137,27 +137,17 @@ stopped_place Leaving e = absurd (false≢true e)
 stopped_place Armed e = refl
 stopped_place Woken e = absurd (false≢true e)
 
-none_begun : (c : ℕ) (f : Effect) (r : Row) → r.begun ≡ None → (row_by c f r).begun ≡ None
-none_begun c Nothing r none = none
-none_begun c (Starts k cause) r none = by (c == k)
-  where
-    by : (t : Bool) → (cond t (started cause r) r).begun ≡ None
-    by true = refl
-    by false = none
-none_begun c (Deepens k ps) r none = none
-none_begun c Ends r none = refl
-none_begun c Begins r none = first_begun c
-
-door_place : (y : Stage) (d : Option Start) → looks y ≡ true → (has_stopped y ≡ true → ⊥)
+door_place : (y : Stage) (d : Option Start) → is_started y ≡ true
     → place_of y ≡ place_of (stage_in d)
-door_place Standing d at moving = absurd (moving refl)
-door_place AtDoor None at moving = refl
-door_place AtDoor (Some s) at moving = refl
-door_place (Entering s) d at moving = absurd (false≢true at)
-door_place Normal d at moving = absurd (false≢true at)
-door_place Leaving d at moving = absurd (false≢true at)
-door_place Armed d at moving = absurd (false≢true at)
-door_place Woken d at moving = absurd (false≢true at)
+door_place Standing d at = absurd (false≢true at)
+door_place AtDoor None at = refl
+door_place AtDoor (Some s) at = refl
+door_place (Entering s) d at = absurd (false≢true at)
+door_place Normal d at = absurd (false≢true at)
+door_place Leaving d at = absurd (false≢true at)
+door_place Armed d at = absurd (false≢true at)
+door_place Woken None at = refl
+door_place Woken (Some s) at = refl
 
 first_world : (b : BoardValue) (before : List (List Record)) → values_of b [] ≡ start_of_life b
     → AreLegal b before → IsMirror b (cold b before)
@@ -196,25 +186,18 @@ module _ (b : BoardValue) (begin : values_of b [] ≡ start_of_life b)
 
   -- an armed core wakes itself
   rises_world : (p : Port) (c : ℕ) → IsKept p → IsMirror b p → c < cores b
-      → stage_at p c ≡ Armed → (p.row c).begun ≡ None → IsMirror b (rising b p c)
-  rises_world p c kept is has at none =
+      → stage_at p c ≡ Armed → IsMirror b (rising b p c)
+  rises_world p c kept is has at =
       let stands : words p c ≡ p.values.starts c = (kept.rows c).still (ap has_stopped at) in
       let world : IsMirror b (woken b p c) =
       command_world b more p is (Wake c) (asked.Wake (record { number = c }) (words p c)) refl
       (wake_legal b p.past c (words p c) has (is.places c ∙ ap place_of at)
       (stands ∙ ap (λ (v : Values). v.starts c) (sym is.values))) in
-      let gone : IsMirror b (gone_to (woken b p c) c (risen (stage_at (woken b p c) c))) =
-      goes_world b (woken b p c) world c
-      (record ((woken b p c).row c) { stage = risen (stage_at (woken b p c) c) })
-      (risen_place (stage_at (woken b p c) c))
-      (λ q e. none-some q (sym (none_begun c (effect_of b
-      (asked.Wake (record { number = c }) (words p c))
-      (reply b p.values (asked.Wake (record { number = c }) (words p c)))) (p.row c) none) ∙ e)) in
       record {
-        values = gone.values;
-        legal = gone.legal;
-        places = gone.places;
-        due = gone.due;
+        values = world.values;
+        legal = world.legal;
+        places = world.places;
+        due = world.due;
       }
 
   step_world : (p : Port) (act : Act) → IsKept p → IsMirror b p → May b p act → IsTrue b p act
@@ -235,9 +218,7 @@ module _ (b : BoardValue) (begin : values_of b [] ≡ start_of_life b)
       subst (λ o. IsMirror b (finished p c o)) (sym may.1) (end_world b p is kept c may.0 may.1)
   step_world p (TakesUp c) kept is may so =
       goes_world b p is c (taking_up (p.row c))
-      (door_place (stage_at p c) (p.row c).door may.0
-      (open_moves _ _ (p.row c) (kept.rows c) may.2))
-      (apart p c kept (λ has. looks_apart (stage_at p c) may.0 (kept.held.holder c has)))
+      (door_place (stage_at p c) (p.row c).door may.0) (apart p c kept may.3)
   step_world p (Stands c) kept is may so =
       goes_world b p is c (stopping Standing (p.row c)) (ap place_of may.0) (apart p c kept may.1)
   step_world p (Arms c) kept is may so =
@@ -258,9 +239,10 @@ module _ (b : BoardValue) (begin : values_of b [] ≡ start_of_life b)
       command_world b more p is (Reset c) (asked.Reset (record { number = c })) refl
       (reset_legal b p.past c may.0)
   step_world p (Rouses c) kept is may so =
-      let gone : IsMirror b (gone_to p c Armed) =
-      goes_world b p is c (record (p.row c) { stage = Armed }) (ap place_of may.1)
-      (apart p c kept (λ has. false≢true (sym (ap may_hold may.1) ∙ kept.held.holder c has))) in
+      let gone : IsMirror b (gone_to p c (roused_at (stage_at p c))) =
+      goes_world b p is c (record (p.row c) { stage = roused_at (stage_at p c) })
+      (roused_place (stage_at p c))
+      (apart p c kept (λ has. looks_apart (stage_at p c) may.1 (kept.held.holder c has))) in
       record {
         values = gone.values;
         legal = gone.legal;
@@ -268,7 +250,7 @@ module _ (b : BoardValue) (begin : values_of b [] ≡ start_of_life b)
         due = gone.due;
       }
   step_world p (Rises c) kept is may so =
-      rises_world p c kept is may.0 may.1 may.2.1
+      rises_world p c kept is may.0 may.1
   step_world p (Turns c) kept is may so =
       goes_world b p is c (record (p.row c) { stage = AtDoor }) (ap place_of may.0)
       (apart p c kept may.1)

@@ -1,7 +1,7 @@
 -- Each act that is due leaves less to do.
-use Rattle.std.proofs.Common.{◌+◌, ◌<◌, ◌==◌, ◌∙◌, ◌≡◌, ◌≤◌, ap, arith, Bool, false}
-use Rattle.std.proofs.Common.{Option, None, Some, refl, subst, suc, sym, true, zero, ℕ}
-use Rattle.std.proofs.lemmas.Bool.{cond-false, cond-true, eq-eqb, eqb-false, eqb-true, false≢true}
+use Rattle.std.proofs.Common.{◌+◌, ◌<◌, ◌∙◌, ◌≡◌, ◌≤◌, ap, arith, Bool, false}
+use Rattle.std.proofs.Common.{Option, None, Some, refl, subst, sym, true, ℕ}
+use Rattle.std.proofs.lemmas.Bool.{cond-false, cond-true, eq-eqb, false≢true}
 use Rattle.std.proofs.lemmas.Bool.{ne_eqb}
 use Rattle.psci_board.specs.Board.{BoardValue, cores}
 use Rattle.psci_ctl_spec.specs.psci_messages.declared.start.Start.{Start}
@@ -13,42 +13,8 @@ use Rattle.psci_port.specs.Stages.{Stage, Standing, AtDoor, Entering, Normal, Le
 use Rattle.psci_port.specs.Stages.{may_hold, stage_after, stage_in}
 use Rattle.psci_port.specs.Port.{Port, Row, taking_up, with_row}
 use Rattle.psci_port.specs.Resting.{core_left, door_left, has_lock, is_entering, left}
-use Rattle.psci_port.specs.Resting.{own_left, row_left, stage_left, start_left, total}
-
--- Sums -------------------------------------------------------------------------------------------
-
-total_same : (f g : ℕ → ℕ) (n : ℕ) → ((x : ℕ) → x < n → g x ≡ f x) → total g n ≡ total f n
-unfolding total
-total_same f g zero same = refl
-total_same f g (suc n) same =
-    ap (λ k. k + total g n) (same n (omega arith))
-    ∙ ap (λ k. f n + k) (total_same f g n (λ x low. same x (omega (arith, low))))
-
-plus_less : (a b c d : ℕ) → a < b → c ≡ d → a + c < b + d
-plus_less a b c d less same = omega (arith, less, same)
-
-less_plus : (a b c d : ℕ) → a ≡ b → c < d → a + c < b + d
-less_plus a b c d same less = omega (arith, less, same)
-
-total_less : (f g : ℕ → ℕ) (c n : ℕ) → c < n → g c < f c
-    → ((x : ℕ) → (x ≡ c → ⊥) → g x ≡ f x) → total g n < total f n
-unfolding total
-total_less f g c zero has less same = absurd (omega (arith, has))
-total_less f g c (suc n) has less same =
-    by (c == n) refl (λ low. total_less f g c n low less same)
-  where
-    other : (c n : ℕ) → c < suc n → (c ≡ n → ⊥) → c < n
-    other c n low never = grind arith
-
-    by : (t : Bool) → (c == n) ≡ t → (c < n → total g n < total f n)
-        → g n + total g n < f n + total f n
-    by true e below =
-        let at : c ≡ n = eqb-true c n e in
-        plus_less (g n) (f n) (total g n) (total f n) (subst (λ i. g i < f i) at less)
-        (total_same f g n (λ x low. same x (λ is. omega (arith, low, at, is))))
-    by false e below =
-        less_plus (g n) (f n) (total g n) (total f n) (same n (λ is. eqb-false c n e (sym is)))
-        (below (other c n has (eqb-false c n e)))
+use Rattle.psci_port.specs.Resting.{own_left, row_left, stage_left, start_left}
+use Rattle.psci_port.proofs.Sums.{same_le, total_less}
 
 -- One core moves ---------------------------------------------------------------------------------
 
@@ -76,8 +42,9 @@ module _ (b : BoardValue) (p : Port) (c : ℕ) (on : c < cores b) where
   one_row r less =
       total_less (core_left p) (core_left (with_row p c r)) c (cores b) on
       (subst (λ y. row_left lock_there starts last y < core_left p c) (sym (row_here r)) less)
-      (λ x never. ap (row_left (has_lock p.lock x) (p.values.starts x) (last_start p.values x))
-      (row_there r x never))
+      (λ x within never. same_le _ _
+      (ap (row_left (has_lock p.lock x) (p.values.starts x) (last_start p.values x))
+      (row_there r x never)))
 
   inner : (a k x y : ℕ) → x < y → a + (k + x) < a + (k + y)
   inner a k x y less = omega (arith, less)
@@ -105,8 +72,9 @@ module _ (b : BoardValue) (p : Port) (c : ℕ) (on : c < cores b) where
       (inner (door_left starts last row) (start_left starts row)
       (stage_left (has_lock lock c) row.begun row.stage)
       (stage_left lock_there row.begun row.stage) less)
-      (λ x never. ap (λ h. row_left h (p.values.starts x) (last_start p.values x) (p.row x))
-      (others x never))
+      (λ x within never. same_le _ _
+      (ap (λ h. row_left h (p.values.starts x) (last_start p.values x) (p.row x))
+      (others x never)))
 
   -- its door is written, or opened
   fewer : (a k y z : ℕ) → a < k → a + (y + z) < k + (y + z)

@@ -22,7 +22,8 @@ pub record NoneCut (b : BoardValue) (p : Port) : Type 0 where
 
 -- Who has the lock is alone inside the firmware, and is not cut off there.
 pub record IsLocked (p : Port) : Type 0 where
-  -- who has the lock took its start up, and was not cut off, reset or started anew with it
+  -- who has the lock is inside a start that it took up, or is armed, though it was started since;
+  -- and was not cut off or reset with it
   pub holder : (c : ℕ) → p.lock ≡ Some c → may_hold (stage_at p c) ≡ true
   -- no two cores are inside the firmware at once
   pub alone : (c d : ℕ) (r q : Record) → (p.row c).begun ≡ Some r → (p.row d).begun ≡ Some q → c ≡ d

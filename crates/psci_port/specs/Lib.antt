@@ -6,3 +6,4 @@ pub mod Rules
 pub mod Kept
 pub mod Resting
 pub mod Served
+pub mod Undone

@@ -23,7 +23,8 @@ use Rattle.psci_world_spec.specs.declared.said.Said.{Said}
 use Rattle.psci_world_spec.specs.Histories.{acks}
 use Rattle.psci_world_spec.specs.Legal.{said_by}
 use Rattle.psci_port.specs.Rebooted.{rebooted}
-use Rattle.psci_port.specs.Stages.{Stage, Standing, AtDoor, Armed, risen, stage_in, stage_said}
+use Rattle.psci_port.specs.Stages.{Stage, Standing, AtDoor, Armed, roused_at, stage_by, stage_in}
+use Rattle.psci_port.specs.Stages.{stage_said}
 
 -- The state --------------------------------------------------------------------------------------
 
@@ -119,14 +120,13 @@ pub data Act : Type 0 where
   -- it says that it stands, with its WFI still to come; and comes there
   Arms : (core : ℕ) → Act
   Sleeps : (core : ℕ) → Act
-  -- the power controller: a message, sent as the one of this number, a wake-up, a reset of a core;
-  -- and the two steps of a door
+  -- the power controller: the message of this number, a wake-up, a reset; and both steps of a door
   Delivers : (index : ℕ) → (message : MessageValue) → Act
   Wakes : (core : ℕ) → Act
   Resets : (core : ℕ) → Act
   -- an interrupt ends the WFI of a core, or brings its power back: it is armed again
   Rouses : (core : ℕ) → Act
-  -- an armed core hears its own wake-up, as the power controller, and comes to its door later
+  -- an armed core hears its own wake-up, as the power controller; and comes to its door
   Rises : (core : ℕ) → Act
   Turns : (core : ℕ) → Act
   Writes : (core : ℕ) → Act
@@ -149,7 +149,8 @@ held_by causes.Reset before = true
 
 -- a core is started, and what it has begun is cut off
 abbrev pub started : Cause → Row → Row
-started cause r = record r { stage = AtDoor; begun = None; held = held_by cause r.held }
+started cause r =
+    record r { stage = stage_by cause r.stage; begun = None; held = held_by cause r.held }
 
 -- what the power controller did leaves this of a core: all is gone as a life ends
 abbrev pub row_by : ℕ → Effect → Row → Row
@@ -251,9 +252,9 @@ stopping stage r = record r { stopped = r.used; stage = stage }
 abbrev pub gone_to : Port → ℕ → Stage → Port
 gone_to p c stage = with_row p c (record (p.row c) { stage = stage })
 
--- it is armed, and its path has power
+-- it is brought back, and its path has power
 abbrev pub roused : BoardValue → Port → ℕ → Port
-roused b p c = record (gone_to p c Armed) {
+roused b p c = record (gone_to p c (roused_at (stage_at p c))) {
   cut = λ level place. if is_on_path b c level place then false else p.cut level place;
 }
 
@@ -261,10 +262,9 @@ roused b p c = record (gone_to p c Armed) {
 abbrev pub woken : BoardValue → Port → ℕ → Port
 woken b p c = commanded b p (Wake c) (asked.Wake (record { number = c }) (words p c))
 
--- the same, and it is at the stage to which that brings it, with the lock in hand
+-- the same, with the lock in hand
 abbrev pub rising : BoardValue → Port → ℕ → Port
-rising b p c =
-    record (gone_to (woken b p c) c (risen (stage_at (woken b p c) c))) { lock = p.lock }
+rising b p c = record (woken b p c) { lock = p.lock }
 
 -- All acts ---------------------------------------------------------------------------------------
 

@@ -13,8 +13,8 @@ use Rattle.psci_world_spec.specs.Histories.{acks, sent}
 use Rattle.psci_world_spec.specs.Legal.{asked_firmware}
 use Rattle.psci_world_spec.specs.Lists.{indexed}
 use Rattle.psci_port.specs.Waiting.{stands, touches, waits}
-use Rattle.psci_port.specs.Stages.{Standing, Entering, Normal, Leaving, Armed, Woken, is_armed}
-use Rattle.psci_port.specs.Stages.{looks, may_hold}
+use Rattle.psci_port.specs.Stages.{Entering, Normal, Leaving, Armed, Woken, is_armed}
+use Rattle.psci_port.specs.Stages.{is_started, looks, may_hold}
 use Rattle.psci_port.specs.Port.{Port, Act, Locks, Unlocks, Calls, Enters, Takes, Finishes}
 use Rattle.psci_port.specs.Port.{TakesUp, Stands, Arms, Sleeps, Delivers, Wakes, Resets, Writes}
 use Rattle.psci_port.specs.Port.{Rouses, Rises, Turns, Opens, Cuts, Restarts, Reboots, stage_at}
@@ -35,7 +35,8 @@ NoneArmed b p level place =
 
 -- What each act waits for.
 abbrev pub May : BoardValue → Port → Act → Type 0
--- the lock has one holder, who gives it back once its call has ended
+-- The lock has one holder, who gives it back once its call has ended. An armed core takes it though
+-- it was started meanwhile, hears of no wake-up then, and gives it back.
 May b p (Locks c) = (c < cores b) × (p.lock ≡ None) × (may_hold (stage_at p c) ≡ true)
 May b p (Unlocks c) = HasLock p c
 -- the firmware is asked with the lock in hand: by a core of the normal world, by one that took a
@@ -45,10 +46,10 @@ May b p (Enters c said) =
     (c < cores b) × HasLock p c × ((s : Start) × (stage_at p c ≡ Entering s))
 May b p (Takes c k said) = HasLock p c
 May b p (Finishes c) = (r : Record) × ((p.row c).begun ≡ Some r)
--- a core takes up what is open and was not used, and nothing while it is held
+-- a core takes up what is open and was not used, without the lock, and nothing while it is held
 May b p (TakesUp c) =
-    (looks (stage_at p c) ≡ true) × ((p.row c).held ≡ false)
-    × (((p.row c).opened == (p.row c).used) ≡ false)
+    (is_started (stage_at p c) ≡ true) × ((p.row c).held ≡ false)
+    × (((p.row c).opened == (p.row c).used) ≡ false) × LacksLock p c
 -- a core stands once it has given the lock back; one that has not is armed
 May b p (Stands c) = (stage_at p c ≡ Leaving) × LacksLock p c
 May b p (Arms c) = (stage_at p c ≡ Leaving) × ((p.row c).begun ≡ None)
@@ -60,9 +61,9 @@ May b p (Delivers k m) =
     × (touches b p.values m ≡ true → m.kind ≡ kinds.Start → LacksLock p m.core.number)
 May b p (Wakes c) = (c < cores b) × (stands p.values (words p) c ≡ true) × LacksLock p c
 May b p (Resets c) = (c < cores b) × LacksLock p c
--- but for its own wake-up: a core that stands comes back, hears that with the lock in hand, and
--- goes to its door once it has given the lock back
-May b p (Rouses c) = (c < cores b) × (stage_at p c ≡ Standing)
+-- but for its own wake-up: a core in its wait comes back, hears that with the lock in hand, unless
+-- it was started by others, and goes to its door once it has given the lock back
+May b p (Rouses c) = (c < cores b) × (looks (stage_at p c) ≡ true)
 May b p (Rises c) = (c < cores b) × (stage_at p c ≡ Armed) × HasLock p c
 May b p (Turns c) = (stage_at p c ≡ Woken) × LacksLock p c
 -- a start is written before its door is opened for it, and not once that is open

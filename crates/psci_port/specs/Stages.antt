@@ -1,5 +1,7 @@
 -- Where a core is on a machine, between any two steps of any core.
 use Rattle.std.specs.Prelude.{Bool, true, false, Option, None, Some}
+use Rattle.psci_ctl_spec.specs.psci_messages.declared.start.Cause.{Cause}
+use Rattle.psci_ctl_spec.specs.psci_messages.declared.start.Cause.TheVariants as causes
 use Rattle.psci_ctl_spec.specs.psci_messages.declared.start.Start.{Start}
 use Rattle.psci_world_spec.specs.psci_fw_spec.declared.outcome.Act.{Act as Outcome}
 use Rattle.psci_world_spec.specs.psci_fw_spec.declared.outcome.Act.TheVariants as outcomes
@@ -24,7 +26,7 @@ pub data Stage : Type 0 where
   Leaving : Stage
   -- it said that it stands, and still executes: its power goes at its WFI, and no earlier
   Armed : Stage
-  -- it was armed and woke itself: it was started, and has the lock to give back
+  -- it was armed, and was started, by itself or by others: it comes to its door without the lock
   Woken : Stage
 
 -- What holds of a stage --------------------------------------------------------------------------
@@ -69,7 +71,8 @@ is_inside Leaving = true
 is_inside Armed = false
 is_inside Woken = false
 
--- it may have the lock: from where it took its start up until it stands
+-- it may have the lock: from where it took its start up until it stands, and while it is armed,
+-- though it was started meanwhile
 abbrev pub may_hold : Stage → Bool
 may_hold Standing = false
 may_hold AtDoor = false
@@ -78,6 +81,16 @@ may_hold Normal = true
 may_hold Leaving = true
 may_hold Armed = true
 may_hold Woken = true
+
+-- it was started, and has not taken its start up
+abbrev pub is_started : Stage → Bool
+is_started Standing = false
+is_started AtDoor = true
+is_started (Entering s) = false
+is_started Normal = false
+is_started Leaving = false
+is_started Armed = false
+is_started Woken = true
 
 -- it looks at its door
 abbrev pub looks : Stage → Bool
@@ -101,15 +114,32 @@ place_of Woken = Started
 
 -- What leaves a core where -----------------------------------------------------------------------
 
--- its own wake-up, if that started it
-abbrev pub risen : Stage → Stage
-risen Standing = Standing
-risen AtDoor = Woken
-risen (Entering s) = Entering s
-risen Normal = Normal
-risen Leaving = Leaving
-risen Armed = Armed
-risen Woken = Woken
+-- a start, which an armed core finds later than at once
+abbrev pub started_at : Stage → Stage
+started_at Standing = AtDoor
+started_at AtDoor = AtDoor
+started_at (Entering s) = AtDoor
+started_at Normal = AtDoor
+started_at Leaving = AtDoor
+started_at Armed = Woken
+started_at Woken = Woken
+
+-- where that is no reset
+abbrev pub stage_by : Cause → Stage → Stage
+stage_by causes.Boot before = started_at before
+stage_by causes.On before = started_at before
+stage_by causes.Wake before = started_at before
+stage_by causes.Reset before = AtDoor
+
+-- an interrupt, which a core that was started hears too
+abbrev pub roused_at : Stage → Stage
+roused_at Standing = Armed
+roused_at AtDoor = Woken
+roused_at (Entering s) = Entering s
+roused_at Normal = Normal
+roused_at Leaving = Leaving
+roused_at Armed = Armed
+roused_at Woken = Woken
 
 -- the start that it reads at its door, if it reads one
 abbrev pub stage_in : Option Start → Stage

@@ -10,6 +10,8 @@
 //!   answers by its definitions, and the mailbox invents nothing.
 #![tactic(auto)]
 
+mod deliveries;
 mod laws;
 
+pub use deliveries::law_undone;
 pub use laws::{law_agrees, law_lock, law_port, law_power, law_rests, law_starts};

@@ -20,7 +20,6 @@ use Rattle.psci_messages.proofs.slots.Slots.TheSendSync as slots
 use Rattle.psci_fw_state.proofs.row.CoreRow.TheSendSync as row
 use Rattle.psci_state.proofs.cores.CoreState.TheSendSync as core
 use Rattle.psci_tree.proofs.kept.Kept.TheSendSync as kept
-use Rattle.psci_tree.proofs.domain.Domain.TheLaws.TheKnot as knot
 use Rattle.psci_tree.specs.contracts.tree.Tree as Tree
 use Rattle.psci_fw_state.specs.contracts.state.State as State
 use Rattle.psci_fw.specs.contracts.firmware.Firmware as Firmware
@@ -54,7 +53,6 @@ tree : IsSend Tree.the_row
 tree =
     search (
       heap.crosses,
-      knot.crosses,
       board.the_send,
       core.the_send,
       core.the_field_send,

@@ -102,6 +102,13 @@ impl Ask {
         self.depths.get(level as usize).copied().unwrap_or(0)
     }
 
+    /// The depths that are asked, where they stand: each at the place of its level.
+    pub fn depths(&self) -> &[u8; LEVELS]
+        ensures { result.now ≡ self.now }
+    {
+        &self.depths
+    }
+
     /// The highest level of which something is asked.
     pub fn highest(self) -> u32
         ensures value { result ≡ highest_of self }

@@ -81,12 +81,13 @@ impl PolledFirmware {
         ensures next { IsNext self.old core.number (calls.Smc regs) self.new }
         ensures refused { OnErr result (self.new ≡ self.old) }
     {
-        let reaction = self.smc_in_slot(words, core, regs)?;
+        let reaction = self.smc_in_slot::<()>(words, core, regs)?;
         Ok(self.firmware.outcome(reaction))
     }
 
-    /// `Firmware::smc_in_slot`, and what it changed is written.
-    pub fn smc_in_slot(
+    /// `Firmware::smc_in_slot`, and what it changed is written. It is compiled once for each `A`,
+    /// as that is.
+    pub fn smc_in_slot<A>(
         &mut self,
         words: &StatusWords,
         core: Core,
@@ -108,7 +109,7 @@ impl PolledFirmware {
             writer,
             cores,
         } = self;
-        let reaction = firmware.smc_in_slot::<()>(core, regs)?;
+        let reaction = firmware.smc_in_slot::<A>(core, regs)?;
         let asked = asked_in(&reaction);
         write_one(words, writer, firmware, asked, *cores);
         Ok(reaction)
@@ -127,12 +128,13 @@ impl PolledFirmware {
         ensures next { IsNext self.old core.number (calls.Enter start) self.new }
         ensures refused { OnErr result (self.new ≡ self.old) }
     {
-        let reaction = self.enter_in_slot(words, core, start)?;
+        let reaction = self.enter_in_slot::<()>(words, core, start)?;
         Ok(self.firmware.outcome(reaction))
     }
 
-    /// `Firmware::enter_in_slot`, and what it changed is written.
-    pub fn enter_in_slot(
+    /// `Firmware::enter_in_slot`, and what it changed is written. It is compiled once for each `A`,
+    /// as a call is.
+    pub fn enter_in_slot<A>(
         &mut self,
         words: &StatusWords,
         core: Core,
@@ -155,7 +157,7 @@ impl PolledFirmware {
             cores,
         } = self;
         let before = life_of(firmware);
-        let reaction = firmware.enter_in_slot::<()>(core, start)?;
+        let reaction = firmware.enter_in_slot::<A>(core, start)?;
         write_changed(words, writer, firmware, before, Some(core), *cores);
         Ok(reaction)
     }

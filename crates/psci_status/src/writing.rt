@@ -6,7 +6,7 @@ ghost use Rattle.psci_fw.specs.Seen.{seen};
 ghost use Rattle.psci_fw_spec.specs.Lives.{first_status};
 ghost use Rattle.psci_fw_spec.specs.Statuses.{added};
 ghost use Rattle.psci_status.specs.Lists.{row};
-ghost use Rattle.psci_status.specs.Seats.{WritesBoard, table, table_of_writer, written};
+ghost use Rattle.psci_status.specs.Seats.{MayWrite, WritesBoard, table, table_of_writer, written};
 ghost use Rattle.psci_status.specs.Naming.{asked_by, is_named, slot_beside};
 ghost use Rattle.psci_status.specs.Writing.{one_more, written_then};
 
@@ -114,8 +114,31 @@ fn write_all(words: &StatusWords, writer: &mut Writer, firmware: &Firmware, coun
 {
     for number in 0..count {
         let core = Core { number };
-        words.update(writer, core, first_status(core));
-        words.update(writer, core, firmware.core_status(core));
+        write_both(
+            words,
+            writer,
+            core,
+            first_status(core),
+            firmware.core_status(core),
+        );
+    }
+}
+
+/// Writes the status of a core at the start of a life, and then the one that it has, if that is
+/// another one: the word of a core that has not entered is loaded once.
+#[inline(always)]
+fn write_both(words: &StatusWords, writer: &mut Writer, core: Core, first: Status, status: Status)
+    requires here { MayWrite words.now writer.old core.number }
+    requires few { length (row (written writer.old) core.number) < 2 ^ 60 }
+    ensures table { table_of_writer writer.new ≡ table_of_writer writer.old }
+    ensures here { row (written writer.new) core.number
+        ≡ added status (added first (row (written writer.old) core.number)) }
+    ensures others { (other : ℕ) → other ≢ core.number
+        → row (written writer.new) other ≡ row (written writer.old) other }
+{
+    words.update(writer, core, first);
+    if status != first {
+        words.update(writer, core, status);
     }
 }
 

@@ -8,7 +8,7 @@ use Rattle.psci_tree.proofs.Words.{refl, set, state_at, suc, sum_by-cons, TreeVa
 use Rattle.psci_state.specs.Ask.{IsAsk}
 use Rattle.psci_tree.specs.Recount.{low}
 use Rattle.psci_tree.proofs.Bounds.{low_each, low_greatest}
-use Rattle.psci_tree.proofs.Below.{least_le}
+use Rattle.psci_tree.proofs.Lows.{least_le}
 
 -- One core -----------------------------------------------------------------------------------
 

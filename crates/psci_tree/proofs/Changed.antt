@@ -1,17 +1,18 @@
 -- What is kept of some cores, once one of them came into another state.
 use Rattle.std.proofs.Common.{◌*◌, None, ◌⊎◌}
 use Rattle.std.proofs.lemmas.List.Sums.{sum_by-set}
-use Rattle.psci_tree.proofs.Words.{◌+◌, ◌-◌, ◌<◌, ◌==◌, ◌^◌, ◌∷◌, ◌≡◌, ◌≤◌, [], ap, AreKept, arith}
-use Rattle.psci_tree.proofs.Words.{Bool, branches, cond, cores_in, CoreState, Domain, eqb-true}
-use Rattle.psci_tree.proofs.Words.{get_or, get_or-flat_map, get_or-le-sum_by, get_or_default}
-use Rattle.psci_tree.proofs.Words.{index_by, inl, inr, is_active, is_away, IsPart, Keeps, Kept}
-use Rattle.psci_tree.proofs.Words.{kept_exchanged, leaves, length, length-append, length-set, List}
-use Rattle.psci_tree.proofs.Words.{lows_told, ltb-true, nat_lt, never_started, recount, refl, set}
-use Rattle.psci_tree.proofs.Words.{Some, sum_by, sum_by-append, sym, true, ℕ}
+use Rattle.psci_tree.proofs.Words.{◌+◌, ◌-◌, ◌<◌, ◌==◌, ◌∷◌, ◌≡◌, ◌≤◌, [], ap, arith}
+use Rattle.psci_tree.proofs.Words.{Bool, cond, CoreState, eqb-true}
+use Rattle.psci_tree.proofs.Words.{get_or, get_or-le-sum_by}
+use Rattle.psci_tree.proofs.Words.{inl, inr, is_active, is_away, IsPart, Keeps, Kept}
+use Rattle.psci_tree.proofs.Words.{kept_exchanged, length, length-set, List}
+use Rattle.psci_tree.proofs.Words.{lows_told, ltb-true, nat_lt, recount, refl, set}
+use Rattle.psci_tree.proofs.Words.{Some, sum_by, sym, true, ℕ}
+use Rattle.psci_tree.proofs.Words.{◌^◌, ◌∙◌, All-take, AreSmall, drop, get_or_default, kept_at}
+use Rattle.psci_tree.proofs.Words.{never_started, Node, span, states_in, suc, sum_by-cons}
+use Rattle.std.proofs.lemmas.List.Elements.{All-drop}
+use Rattle.psci_tree.specs.Kept.{IsTurn}
 use Rattle.psci_tree.proofs.Asks.{active_in, away_in, low_one, low_zero}
-use Rattle.psci_tree.proofs.Below.{cores_of_domain}
-use Rattle.psci_tree.proofs.Ways.{Step, place_inside}
-use Rattle.psci_tree.proofs.Keeping.{kept_head, kept_tail, kept_own}
 
 -- a sum over the cores, by what it was
 moved : (f : CoreState → ℕ) (cs : List CoreState) (j : ℕ) (b s : CoreState) → j < length cs
@@ -84,42 +85,66 @@ part_of cs j b k before h is own was = rw (own.counted, was.counted) (record {
   off = part (λ c. cond (is_away c.activity) 1 0) cs j b h is;
 })
 
--- the known starts below domains that keep them have 32 bits each
-pub small_in : (ns : List Domain) → AreKept ns
-    → sum_by (λ (c : CoreState). c.known) (cores_in ns) ≤ 2 ^ 32 * length (cores_in ns)
-small_in [] h = omega arith
-small_in (n ∷ ns) h =
-    let own = kept_own n (kept_head n ns h) in
-    omega (
-      arith,
-      own.small,
-      ap (λ (i : Kept). i.known) own.counted,
-      small_in ns (kept_tail n ns h),
-      length-append (leaves n) (cores_in ns),
-      sum_by-append (λ (c : CoreState). c.known) (leaves n) (cores_in ns),
-    )
+-- One of the cores below a domain ------------------------------------------------------------
 
--- one of the cores, of which this was kept
-pub record Was (cs : List CoreState) (j : ℕ) (before : Kept) : Type 0 where
-  pub core : CoreState
-  pub inside : j < length cs
-  pub is : core ≡ get_or cs j core
-  pub kept : Keeps before (core ∷ [])
+abbrev IsSmall : CoreState → Type 0
+IsSmall c = c.known ≤ 2 ^ 32
 
-pub was_of : (cs : List CoreState) (j : ℕ) (before : Kept) → j < length cs
-    → ((c : CoreState) → Keeps before (get_or cs j c ∷ [])) → Was cs j before
-was_of cs j before h each = record {
-  core = get_or cs j never_started;
-  inside = h;
-  is = get_or_default cs j never_started (get_or cs j never_started) h;
-  kept = each never_started;
-}
+-- known starts of 32 bits have a sum of so many bits
+known_small : (cs : List CoreState) → AreSmall cs
+    → sum_by (λ (c : CoreState). c.known) cs ≤ 2 ^ 32 * length cs
+known_small [] h = omega arith
+known_small (c ∷ cs) h =
+    let rest = known_small cs (λ i d inside. h (suc i) d (omega (arith, inside))) in
+    omega (arith, sum_by-cons (λ (x : CoreState). x.known) c cs, h 0 c (omega arith), rest)
 
--- the core to which a way leads, one step down
-pub core_down : (n : Domain) (l k : ℕ) (way : List ℕ) (d : CoreState) → Step n l k way →
-    get_or (leaves n) (index_by l way n) d
-    ≡ get_or (leaves (get_or (branches n) (get_or way k 0) n))
-    (index_by k way (get_or (branches n) (get_or way k 0) n)) d
-core_down n l k way d down =
-    rw (down.place, cores_of_domain n (omega (arith, down.inside)))
-    (get_or-flat_map leaves (branches n) _ _ n d down.inside (place_inside k way _ down.rest))
+module _ {levels : List (List ℕ)} {cores : List CoreState} {rows : List (List Kept)} {n : Node}
+    {before after : Kept} (t : IsTurn levels cores rows n before after) where
+  abbrev one : CoreState
+  one = get_or t.old t.place never_started
+
+  one_is : one ≡ get_or t.old t.place one
+  one_is = get_or_default t.old t.place never_started one t.inside
+
+  pub turn_part : (k : Kept) → k ≡ kept_at rows n.level n.place → IsPart before k
+  turn_part k e =
+      part_of t.old t.place one k before t.inside one_is (rw e t.kept) (t.was never_started)
+
+  moved_in : (k : Kept) → k ≡ kept_at rows n.level n.place
+      → AreMoved (kept_exchanged k before after) (set t.old t.place t.state)
+  moved_in k e = sums_moved t.old t.place one t.state k before after t.inside one_is (rw e t.kept)
+      (t.was never_started) t.comes
+
+  small_in : AreSmall (states_in levels cores n)
+  small_in = All-take IsSmall (span levels n).count (drop (span levels n).first cores)
+      (All-drop IsSmall (span levels n).first cores t.small)
+
+  keeps_with : (k : Kept) (ls : List ℕ) → AreMoved k (set t.old t.place t.state)
+      → ls ≡ (recount (states_in levels cores n)).lows
+      → Keeps (record k { lows = ls }) (states_in levels cores n)
+  keeps_with k ls m e =
+      let here : record k { lows = ls } ≡ recount (states_in levels cores n) =
+      recount_with (states_in levels cores n) k ls (rw t.now m) e in
+      record {
+        counted = here;
+        small = omega (
+          arith,
+          known_small (states_in levels cores n) small_in,
+          ap (λ (j : Kept). j.known) here,
+        );
+      }
+
+  -- with what the numbers tell that the cores below now ask
+  pub turn_told : (k now : Kept) (ls : List ℕ) → k ≡ kept_at rows n.level n.place
+      → now ≡ kept_exchanged k before after → Some ls ≡ lows_told now after
+      → Keeps (record now { lows = ls }) (states_in levels cores n)
+  turn_told k now ls e is told =
+      let moved : AreMoved now (set t.old t.place t.state) = rw is (moved_in k e) in
+      keeps_with now ls moved (told_right t.old t.place t.state now after ls t.inside moved t.comes
+      told ∙ ap (λ cs. (recount cs).lows) (sym t.now))
+
+  -- and with what a look at the children says
+  pub turn_looked : (k now : Kept) (ls : List ℕ) → k ≡ kept_at rows n.level n.place
+      → now ≡ kept_exchanged k before after → ls ≡ (recount (states_in levels cores n)).lows
+      → Keeps (record now { lows = ls }) (states_in levels cores n)
+  turn_looked k now ls e is asked = keeps_with now ls (rw is (moved_in k e)) asked

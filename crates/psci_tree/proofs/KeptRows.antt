@@ -1,21 +1,19 @@
 -- What domains keep, and the ways down to cores, on boards whose values are known: a cluster of two
 -- cores, and clusters of one, two and one core below two domains of level 2.
-use Rattle.std.proofs.Common.{◌≡◌, ℕ, List, [], ◌∷◌, ◌^◌, map, refl, length, get_or, ap, subst, sym}
-use Rattle.std.proofs.Common.{arith}
+use Rattle.std.proofs.Common.{◌≡◌, ℕ, List, [], ◌∷◌, map, refl}
 use Rattle.psci_board.proofs.Tables.{◌⇒◌, Gives}
 use Rattle.psci_state.specs.declared.cores.Change.{Change}
-use Rattle.psci_board.specs.Board.{index_in, place_above}
-use Rattle.std.specs.Prelude.{Some, None, slice_index_or}
+use Rattle.psci_board.specs.Board.{place_above}
+use Rattle.std.specs.Prelude.{Some, None}
 use Rattle.psci_state.specs.declared.cores.CoreState.{CoreState}
 use Rattle.psci_state.specs.declared.cores.Activity.TheVariants.{Active, Suspended, Away}
-use Rattle.psci_tree.specs.Recount.{never_started}
-use Rattle.psci_tree.specs.declared.domain.Domain.{Domain, out-Domain}
 use Rattle.psci_tree.specs.declared.kept.Kept.{Kept}
-use Rattle.psci_tree.specs.Domains.{branches, domains_down, leaves}
-use Rattle.psci_tree.specs.Standing.{kept_on_path}
-use Rattle.psci_tree.specs.Kept.{IsDescent, IsExchange, Keeps, recount, kept_exchanged}
-use Rattle.psci_tree.specs.Kept.{kept_together, lows_told}
+use Rattle.psci_tree.specs.Kept.{gone as gone_kept, kept_at, kept_exchanged, lows_together}
+use Rattle.psci_tree.specs.Kept.{lows_told, recount, states_in, with_kept, AreKept, AreSmall}
+use Rattle.psci_tree.specs.Kept.{IsOffRow, IsTurn}
+use Rattle.std.proofs.Common.{◌+◌, ◌^◌, arith}
 use Rattle.psci_tree.specs.Changes.{core_changed}
+use Rattle.psci_tree.specs.Recount.{never_started}
 use Rattle.psci_tree.specs.Way.{cleared_from}
 
 -- a core in power-down, and one in retention of its cluster
@@ -57,11 +55,13 @@ recounts : Gives recount
     ∷ (gone ∷ down ∷ []) ⇒ keeps 3 3 0 0 2 2 0 1 ∷ [])
 recounts = refl
 
--- two clusters: the least of both, and the sums
-keeps_beside : kept_together (recount (pending ∷ retained ∷ []))
-    (recount (gone ∷ never_started ∷ []))
-    ≡ keeps 0 0 0 0 6 4 1 2
-keeps_beside = refl
+-- two clusters: the least of both at each level
+lows_beside : lows_together (3 ∷ 2 ∷ 0 ∷ 0 ∷ []) (3 ∷ 3 ∷ 1 ∷ 0 ∷ []) ≡ 3 ∷ 2 ∷ 0 ∷ 0 ∷ []
+lows_beside = refl
+
+-- while every core is off, as many are kept
+gone_two : gone_kept (recount (pending ∷ retained ∷ [])) ≡ keeps 3 3 3 3 0 2 0 2
+gone_two = refl
 
 -- of these cores one was so and is so now
 exchanged : Gives (λ (q : List CoreState × CoreState × CoreState).
@@ -89,44 +89,6 @@ told : Gives (λ (q : List CoreState × CoreState). lows_told (recount q.0) (rec
     ∷ (down ∷ [], down) ⇒ Some (3 ∷ 3 ∷ 0 ∷ 0 ∷ []) ∷ [])
 told = refl
 
--- a domain that is one core, which was off and is suspended now
-exchange_of_core : (n : Domain) → length (branches n) ≡ 0 → leaves n ≡ gone ∷ []
-    → IsExchange n 0 [] down (recount (gone ∷ [])) (recount (down ∷ []))
-exchange_of_core n none is = record {
-  descent = record { long = omega arith; leads = none; few = omega (arith, ap length is) };
-  comes = record { counted = refl; small = omega arith };
-  was = λ c.
-      subst (λ cs. Keeps (recount (gone ∷ [])) (get_or cs 0 c ∷ [])) (sym is)
-      (record { counted = refl; small = omega arith });
-}
-
--- it was not as was kept of it
-exchange_of_another : (n : Domain) → leaves n ≡ gone ∷ []
-    → IsExchange n 0 [] down (recount (retained ∷ [])) (recount (down ∷ [])) → ⊥
-exchange_of_another n is e =
-    let kept : Keeps (recount (retained ∷ [])) (gone ∷ []) =
-    subst (λ cs. Keeps (recount (retained ∷ [])) (get_or cs 0 gone ∷ [])) is (e.was gone) in
-    absurd (omega (arith, ap (λ (k : Kept). k.off) kept.counted))
-
--- it is not as is kept of it
-exchange_for_another : (n : Domain)
-    → IsExchange n 0 [] down (recount (gone ∷ [])) (recount (gone ∷ [])) → ⊥
-exchange_for_another n e = absurd (omega (arith, ap (λ (k : Kept). k.off) e.comes.counted))
-
--- a way that is too short, one that leads to no child, and one that ends above the core
-descent_too_far : (n : Domain) → IsDescent n 1 [] → ⊥
-descent_too_far n a = absurd (omega (arith, a.long))
-
-descent_nowhere : (n : Domain) → length (branches n) ≡ 2 → IsDescent n 1 (2 ∷ []) → ⊥
-descent_nowhere n two a = absurd (omega (arith, two, a.leads.0))
-
-descent_to_a_domain : (n : Domain) → length (branches n) ≡ 2 → IsDescent n 0 [] → ⊥
-descent_to_a_domain n two a = absurd (omega (arith, two, a.leads))
-
--- more cores than a board has
-descent_among_many : (n : Domain) → length (leaves n) ≡ 2 ^ 16 → IsDescent n 0 [] → ⊥
-descent_among_many n many a = absurd (omega (arith, many, a.few))
-
 -- a start takes its own number, however many there were before, and not one more; without a start
 -- the known one stays
 changes : Gives (λ (c : Change). core_changed c retained)
@@ -134,17 +96,33 @@ changes : Gives (λ (c : Change). core_changed c retained)
     ∷ record { activity = Away; started = None } ⇒ record { activity = Away; known = 4 } ∷ [])
 changes = refl
 
--- the numbers of the children on the ways to the cores, from the core's own up
+-- the tree of these clusters
 abbrev levels : List (List ℕ)
 levels = (1 ∷ 2 ∷ 1 ∷ []) ∷ (2 ∷ 1 ∷ []) ∷ (2 ∷ []) ∷ []
 
-abbrev way : ℕ → List ℕ
-way core =
-    map (λ l. index_in (slice_index_or levels l []) (place_above levels l core)) (0 ∷ 1 ∷ 2 ∷ [])
+-- the states of the cores below the first domain of level 2, and below the last cluster
+abbrev four : List CoreState
+four = down ∷ retained ∷ pending ∷ gone ∷ []
 
-ways : Gives way
-    (0 ⇒ (0 ∷ 0 ∷ 0 ∷ []) ∷ 2 ⇒ (1 ∷ 1 ∷ 0 ∷ []) ∷ 3 ⇒ (0 ∷ 0 ∷ 1 ∷ []) ∷ [])
-ways = refl
+states_cut : Gives (states_in levels four)
+    (record { level = 2; place = 0 } ⇒ (down ∷ retained ∷ pending ∷ [])
+    ∷ record { level = 1; place = 2 } ⇒ (gone ∷ [])
+    ∷ record { level = 3; place = 0 } ⇒ four ∷ [])
+states_cut = refl
+
+-- what the second domain of level 2 keeps, and another number in its place
+abbrev kept : List (List Kept)
+kept = (keeps 3 3 0 0 1 1 0 0 ∷ keeps 0 0 0 0 5 2 1 0 ∷ keeps 3 3 3 3 1 1 0 1 ∷ [])
+    ∷ (keeps 0 0 0 0 6 3 1 0 ∷ keeps 3 3 3 3 1 1 0 1 ∷ [])
+    ∷ (keeps 0 0 0 0 7 4 1 1 ∷ []) ∷ []
+
+kept_second : kept_at kept 2 1 ≡ keeps 3 3 3 3 1 1 0 1
+kept_second = refl
+
+kept_written : kept_at
+    (with_kept kept (record { level = 2; place = 1 }) (keeps 0 0 0 0 1 1 1 0)) 2 1
+    ≡ keeps 0 0 0 0 1 1 1 0
+kept_written = refl
 
 -- the places on a way, from the core's own up
 places_last : map (λ l. place_above levels l 3) (0 ∷ 1 ∷ 2 ∷ 3 ∷ []) ≡ 3 ∷ 2 ∷ 1 ∷ 0 ∷ []
@@ -158,12 +136,17 @@ cleared_above : cleared_from levels 3 1 rows
     ≡ (3 ∷ 3 ∷ 3 ∷ 3 ∷ []) ∷ (3 ∷ 3 ∷ 0 ∷ []) ∷ (3 ∷ 0 ∷ []) ∷ (0 ∷ []) ∷ []
 cleared_above = refl
 
--- what is kept on the path of the last core: by the system itself, and by the second domain of the
--- level below it
-kept_by_system : (root none : Domain) → kept_on_path root levels 3 3 none ≡ (out-Domain root).kept
-kept_by_system root none = refl
+-- a known start of more than 32 bits, a level without a row, a row without a domain, and a turn at
+-- a core itself
+not_small : AreSmall (record { activity = Away; known = 2 ^ 32 + 1 } ∷ []) → ⊥
+not_small h = absurd (omega (arith, h 0 never_started (omega arith)))
 
-kept_below_system : (root none : Domain)
-    → kept_on_path root levels 3 2 none
-    ≡ (out-Domain (slice_index_or (domains_down 1 root) 1 none)).kept
-kept_below_system root none = refl
+no_rows : AreKept levels four [] → ⊥
+no_rows are = absurd (omega (arith, are.shape.height))
+
+no_domain : IsOffRow levels 1 [] → ⊥
+no_domain is = absurd (omega (arith, is.count))
+
+turn_at_core : IsTurn levels four kept (record { level = 0; place = 2 }) (recount (gone ∷ []))
+    (recount (down ∷ [])) → ⊥
+turn_at_core turn = absurd (omega (arith, turn.above))

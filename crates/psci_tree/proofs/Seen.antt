@@ -1,11 +1,11 @@
 -- The fields of a tree in memory, and the value that it is seen as.
 use Rattle.std.proofs.Common.{Vec, Global}
 use Rattle.std.proofs.lemmas.List.{length-set}
-use Rattle.psci_tree.proofs.Words.{◌<◌, ◌∙◌, ◌≡◌, ◌≤◌, [], ap, arith, cases_eq, child_counts}
-use Rattle.psci_tree.proofs.Words.{confirmed_at, confirmed_of, CoreState, depth_set, Depths, Domain}
+use Rattle.psci_tree.proofs.Words.{◌<◌, ◌∙◌, ◌≡◌, ◌≤◌, [], ap, AreKept, arith, cases_eq}
+use Rattle.psci_tree.proofs.Words.{confirmed_at, confirmed_of, CoreState, depth_set, Depths}
 use Rattle.psci_tree.proofs.Words.{get_or, get_or-set_other, get_or-set_same, get_or_default}
 use Rattle.psci_tree.proofs.Words.{granted_at, granted_of, HasNodeIn, inl, inr, IsActivity}
-use Rattle.psci_tree.proofs.Words.{IsDomainTree, IsHeld, IsKept, IsWayOf, known_at, leaves, length}
+use Rattle.psci_tree.proofs.Words.{IsDomainTree, IsHeld, IsWayOf, Kept, known_at, length}
 use Rattle.psci_tree.proofs.Words.{length-map, List, map, never_started, Node, place_above, set}
 use Rattle.psci_tree.proofs.Words.{size_below, subst, sym, the_view, TreeValue, unwrap_or, Way}
 use Rattle.psci_tree.proofs.Words.{with_core_state, with_items, with_items_is, ℕ}
@@ -14,23 +14,25 @@ use Rattle.psci_tree.specs.contracts.tree.Tree.{the_invariant}
 use Rattle.psci_tree.proofs.DepthRows.{DepthRow, depth_row, ReadAt, read_at, depths_written}
 use Rattle.psci_state.specs.declared.cores.Change.{Change}
 use Rattle.psci_tree.specs.Changes.{core_changed}
-use Rattle.psci_tree.proofs.Slices.{whole_kept}
+
+-- what the domains keep
+abbrev pub kept_in : Inside → List (List Kept)
+kept_in x = map (λ v. v.items) x.kept.items
 
 -- what holds of the fields, by the value
 pub held_seen : (x : Inside) (v : TreeValue) → the_invariant x → the_view x ≡ v
-    → IsHeld x.root x.cores.items x.ways.items v
-held_seen x v h is = subst (IsHeld x.root x.cores.items x.ways.items) is h
+    → IsHeld (kept_in x) x.ways.items v
+held_seen x v h is = subst (IsHeld (kept_in x) x.ways.items) is h
 
 -- the same after a change of the depths alone
 pub held_with : (x : Inside) (v u w : TreeValue) → the_invariant x → the_view x ≡ v → w ≡ u
     → u.levels ≡ v.levels → u.cores ≡ v.cores → IsDomainTree u
-    → IsHeld x.root x.cores.items x.ways.items w
+    → IsHeld (kept_in x) x.ways.items w
 held_with x v u w h is e l s valid =
-    let levels : x.board.levels ≡ u.levels = ap (λ (t : TreeValue). t.levels) is ∙ sym l in
+    let same : IsHeld (kept_in x) x.ways.items v = held_seen x v h is in
     rw e (record {
-      tied = record { whole = rw (← levels) h.tied.whole; kept = h.tied.kept; valid = valid };
-      row = h.row ∙ ap (λ (t : TreeValue). t.cores) is ∙ sym s;
-      lead = rw (← levels) h.lead;
+      tied = record { kept = rw (l, s) same.tied.kept; valid = valid };
+      lead = rw l same.lead;
     })
 
 -- the core of the value is one of the board, and the way that is read leads to it
@@ -140,35 +142,22 @@ core_valid t core s v h a =
     search
 
 -- what was held is held, with the new state of the core
-pub held_core : (root new : Domain) (cores : List CoreState) (ways : List Way) (t : TreeValue)
-    (core : ℕ) (s : CoreState) → IsHeld root cores ways t → core < size_below t.levels
-    → IsActivity s.activity → leaves new ≡ set t.cores core s
-    → ((k : ℕ) → child_counts k new ≡ child_counts k root) → IsKept new
-    → IsHeld new (set cores core s) ways (record t { cores = leaves new })
-held_core root new cores ways t core s h l a e same kept = rw e (record {
-  tied = record {
-    whole = whole_kept root new t.levels same h.tied.whole;
-    kept = kept;
-    valid = core_valid t core s h.tied.valid l a;
-  };
-  row = ap (λ cs. set cs core s) h.row;
+pub held_core : (rows now : List (List Kept)) (ways : List Way) (t : TreeValue) (core : ℕ)
+    (s : CoreState) → IsHeld rows ways t → core < size_below t.levels → IsActivity s.activity
+    → AreKept t.levels (set t.cores core s) now
+    → IsHeld now ways (record t { cores = set t.cores core s })
+held_core rows now ways t core s h l a kept = record {
+  tied = record { kept = kept; valid = core_valid t core s h.tied.valid l a };
   lead = h.lead;
-})
-
--- the state of a core, as the row of states has it
-pub state_held : (root : Domain) (cores : List CoreState) (ways : List Way) (t : TreeValue)
-    (core : ℕ) (x y : CoreState) → IsHeld root cores ways t → core < size_below t.levels
-    → x ≡ get_or cores core x → x ≡ get_or t.cores core y
-state_held root cores ways t core x y h l e =
-    let there : core < length t.cores = omega (arith, h.tied.valid.cores) in
-    e ∙ ap (λ cs. get_or cs core x) h.row ∙ get_or_default t.cores core x y there
+}
 
 -- the value of the tree after the change
-pub core_value : (root : Domain) (cores : List CoreState) (ways : List Way) (t : TreeValue)
-    (core : ℕ) (x s : CoreState) (change : Change) (now : List CoreState)
-    → IsHeld root cores ways t → core < size_below t.levels → x ≡ get_or cores core x
+pub core_value : (rows : List (List Kept)) (ways : List Way) (t : TreeValue) (core : ℕ)
+    (x s : CoreState) (change : Change) (now : List CoreState)
+    → IsHeld rows ways t → core < size_below t.levels → x ≡ get_or t.cores core x
     → s ≡ core_changed change x → now ≡ set t.cores core s
     → record t { cores = now }
     ≡ with_core_state t core change.activity (unwrap_or change.started (known_at t core))
-core_value root cores ways t core x s change now h l e d n =
-    rw (n, d, state_held root cores ways t core x never_started h l e)
+core_value rows ways t core x s change now h l e d n =
+    let there : core < length t.cores = omega (arith, h.tied.valid.cores) in
+    rw (n, d, e ∙ get_or_default t.cores core x never_started there)

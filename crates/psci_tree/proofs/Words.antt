@@ -35,22 +35,17 @@ pub use Rattle.psci_tree.specs.Changes.{all_off, depth_set, made_pending, path_c
 pub use Rattle.psci_tree.specs.Changes.{rows_with_depth, still_confirmed, with_core_state}
 pub use Rattle.psci_tree.specs.Changes.{with_path_cleared}
 pub use Rattle.psci_tree.specs.DepthRows.{confirmed_of, filled, granted_of}
-pub use Rattle.psci_tree.specs.Domains.{branches, child_count, child_counts, cores_in, domains_down}
-pub use Rattle.psci_tree.specs.Domains.{HasShape, index_by, IsWay, IsWhole, leaves}
 pub use Rattle.psci_tree.specs.Inside.{IsHeld, IsTied}
-pub use Rattle.psci_tree.specs.Kept.{AreKept, IsKept, IsPart, IsRecount, Keeps, kept_exchanged}
-pub use Rattle.psci_tree.specs.Kept.{kept_together, low_in, lows_told, recount}
+pub use Rattle.psci_tree.specs.Kept.{AreKept, AreSmall, gone, HasRows, IsKeptOn, IsPart, Keeps}
+pub use Rattle.psci_tree.specs.Kept.{kept_at, kept_exchanged, level_kept, low_in, lows_together}
+pub use Rattle.psci_tree.specs.Kept.{lows_told, recount, states_in, with_kept}
 pub use Rattle.psci_tree.specs.Recount.{ask_at, asks, confirmed_at, granted_at, is_active}
 pub use Rattle.psci_tree.specs.Recount.{is_active_at, is_away, IsActivity, IsDomainTree, known}
 pub use Rattle.psci_tree.specs.Recount.{known_at, least, level_sizes, low, never_started, state_at}
 pub use Rattle.psci_tree.specs.Recount.{TreeValue}
-pub use Rattle.psci_tree.specs.Standing.{kept_on_path, on_path}
+pub use Rattle.psci_tree.specs.Standing.{on_path}
 pub use Rattle.psci_tree.specs.Way.{cleared_from, IsWayOf}
 pub use Rattle.psci_tree.specs.contracts.tree.Tree.{the_view}
 pub use Rattle.psci_tree.specs.declared.depths.Depths.{Depths}
-pub use Rattle.psci_tree.specs.declared.domain.Domain.{Domain, out-Domain}
-pub use Rattle.psci_tree.specs.declared.domain.Domain.TheOpen.{Domain-F}
-pub use Rattle.psci_tree.specs.declared.domain.Domain.TheViews.{out-roll-Domain, roll-Domain}
-pub use Rattle.psci_tree.specs.declared.domain.Domain.TheViews.{the_lemmas}
 pub use Rattle.psci_tree.specs.declared.kept.Kept.{Kept}
 pub use Rattle.psci_tree.specs.declared.way.Way.{Way}

@@ -1,13 +1,13 @@
 -- What a domain keeps of the cores below it, so that they need not be counted again.
 use Rattle.std.specs.Prelude.{◌≡◌, ℕ, ◌+◌, ◌-◌, ◌*◌, ◌^◌, ◌<◌, ◌≤◌, min, List, [], ◌∷◌, length, map}
-use Rattle.std.specs.Prelude.{slice_index, slice_index_or, sum, Option, Some, None, nat_lt, ◌==◌}
-use Rattle.std.specs.Prelude.{if◌then◌else◌}
-use Rattle.std.specs.List.{All, sum_by, count_by, flat_map}
+use Rattle.std.specs.Prelude.{slice_index, slice_index_or, slice_set, take, drop, replicate}
+use Rattle.std.specs.Prelude.{Option, Some, None, nat_lt, ◌==◌, if◌then◌else◌}
+use Rattle.std.specs.List.{All, sum_by, count_by}
+use Rattle.psci_board.specs.declared.node.Node.{Node}
+use Rattle.psci_board.specs.Board.{HasNodeIn, size_below, span}
 use Rattle.psci_state.specs.declared.cores.CoreState.{CoreState}
 use Rattle.psci_tree.specs.declared.kept.Kept.{Kept}
-use Rattle.psci_tree.specs.declared.domain.Domain.{Domain, out-Domain}
-use Rattle.psci_tree.specs.Recount.{asks, is_active, is_away, least}
-use Rattle.psci_tree.specs.Domains.{cores_in, leaves, domains_down, IsWay, index_by}
+use Rattle.psci_tree.specs.Recount.{asks, is_active, is_away, least, never_started}
 
 -- the least ask of these cores at a level
 abbrev pub low_in : ℕ → List CoreState → ℕ
@@ -23,16 +23,10 @@ recount cs = record {
   off = count_by (λ c. is_away c.activity) cs;
 }
 
--- what is kept of some cores and of others beside them
-abbrev pub kept_together : Kept → Kept → Kept
-kept_together j k = record {
-  lows = map (λ level. min (slice_index j.lows level) (slice_index k.lows level))
-      (0 ∷ 1 ∷ 2 ∷ 3 ∷ []);
-  known = j.known + k.known;
-  cores = j.cores + k.cores;
-  active = j.active + k.active;
-  off = j.off + k.off;
-}
+-- the lesser of two asks at each level
+abbrev pub lows_together : List ℕ → List ℕ → List ℕ
+lows_together xs ys = map (λ level. min (slice_index xs level) (slice_index ys level))
+    (0 ∷ 1 ∷ 2 ∷ 3 ∷ [])
 
 -- what is kept of some cores, but for what they ask, once one of them came into another state: this
 -- was kept of it before, and that is kept after
@@ -60,36 +54,75 @@ pub record Keeps (k : Kept) (cs : List CoreState) : Type 0 where
   pub counted : k ≡ recount cs
   pub small : k.known ≤ 2 ^ 32 * length cs
 
--- a way leads to a core, so many levels down from a domain that has no more cores than a board
-pub record IsDescent (n : Domain) (level : ℕ) (way : List ℕ) : Type 0 where
-  pub long : level ≤ length way
-  pub leads : IsWay level way n
-  pub few : length (leaves n) < 2 ^ 16
+-- Rows --------------------------------------------------------------------------------------------
 
--- the core that a way leads to comes into this state: this was kept of it before, and that is kept
--- of it then
-pub record IsExchange (n : Domain) (level : ℕ) (way : List ℕ) (state : CoreState)
-    (before after : Kept) : Type 0 where
-  pub descent : IsDescent n level way
-  pub was : (c : CoreState)
-      → Keeps before (slice_index_or (leaves n) (index_by level way n) c ∷ [])
+-- what the domains of a level keep, from level 1 up
+abbrev pub level_kept : List (List Kept) → ℕ → List Kept
+level_kept rows level = slice_index_or rows (level - 1) []
+
+-- what the domain of this level and place keeps
+abbrev pub kept_at : List (List Kept) → ℕ → ℕ → Kept
+kept_at rows level place = slice_index_or (level_kept rows level) place (recount [])
+
+-- one domain keeps this
+abbrev pub with_kept : List (List Kept) → Node → Kept → List (List Kept)
+with_kept rows n k = slice_set rows (n.level - 1) (slice_set (level_kept rows n.level) n.place k)
+
+-- the states of the cores below a node of these levels, cut out of those of all cores
+abbrev pub states_in : List (List ℕ) → List CoreState → Node → List CoreState
+states_in levels cores n = take (span levels n).count (drop (span levels n).first cores)
+
+-- known starts of 32 bits
+abbrev pub AreSmall : List CoreState → Type 0
+AreSmall cores = All (λ (c : CoreState). c.known ≤ 2 ^ 32) cores
+
+-- a place for each domain above the cores
+pub record HasRows (levels : List (List ℕ)) (rows : List (List Kept)) : Type 0 where
+  pub height : length rows ≡ length levels
+  pub domains : (level : ℕ) → 0 < level → level ≤ length levels
+      → length (level_kept rows level) ≡ size_below (drop level levels)
+
+-- each domain of a level keeps what is so of the cores below it
+abbrev pub IsKeptOn : List (List ℕ) → List CoreState → List (List Kept) → ℕ → Type 0
+IsKeptOn levels cores rows level = (place : ℕ) → place < size_below (drop level levels)
+    → Keeps (kept_at rows level place)
+    (states_in levels cores (record { level = level; place = place }))
+
+-- and so does each domain above the cores
+pub record AreKept (levels : List (List ℕ)) (cores : List CoreState) (rows : List (List Kept))
+    : Type 0 where
+  pub shape : HasRows levels rows
+  pub small : AreSmall cores
+  pub each : (level : ℕ) → 0 < level → level ≤ length levels → IsKeptOn levels cores rows level
+
+-- what is kept of as many cores, once they are off and their starts forgotten
+abbrev pub gone : Kept → Kept
+gone k = recount (replicate k.cores never_started)
+
+-- what the domains of a level keep, while every core is off and was never started
+pub record IsOffRow (levels : List (List ℕ)) (level : ℕ) (row : List Kept) : Type 0 where
+  pub count : length row ≡ size_below (drop level levels)
+  pub each : (place : ℕ) → place < length row
+      → Keeps (slice_index_or row place (recount []))
+      (replicate (span levels (record { level = level; place = place })).count never_started)
+
+-- One of the cores below a domain came into another state, of which this was kept before and that
+-- is kept now. The domain still keeps what was so, and those one level below it what is so.
+pub record IsTurn (levels : List (List ℕ)) (cores : List CoreState) (rows : List (List Kept))
+    (n : Node) (before after : Kept) : Type 0 where
+  pub node : HasNodeIn levels n
+  pub above : 0 < n.level
+  pub count : length cores ≡ size_below levels
+  pub small : AreSmall cores
+  pub shape : HasRows levels rows
+  pub below : 1 < n.level → IsKeptOn levels cores rows (n.level - 1)
+  -- the states of the cores below it before, the place of the one among them, and its new state
+  pub old : List CoreState
+  pub place : ℕ
+  pub state : CoreState
+  pub inside : place < length old
+  pub few : length old < 2 ^ 16
+  pub now : states_in levels cores n ≡ slice_set old place state
+  pub kept : Keeps (kept_at rows n.level n.place) old
+  pub was : (c : CoreState) → Keeps before (slice_index_or old place c ∷ [])
   pub comes : Keeps after (state ∷ [])
-
--- what a domain keeps is kept of the cores below it
-abbrev pub IsRecount : Domain → Type 0
-IsRecount n = Keeps (out-Domain n).kept (leaves n)
-
--- so it is with these domains and with all domains below them, however many levels down
-pub record AreKept (ns : List Domain) : Type 0 where
-  pub each : (levels : ℕ) → All IsRecount (flat_map (domains_down levels) ns)
-
--- so it is with a domain and with all domains below it
-pub record IsKept (n : Domain) : Type 0 where
-  pub each : (levels : ℕ) → All IsRecount (domains_down levels n)
-
--- a row of all domains of one level of a tree, each of which is to be a child of the next
-pub record IsRow (levels : List (List ℕ)) (below : ℕ) (row : List Domain) : Type 0 where
-  pub level : below < length levels
-  pub kept : AreKept row
-  pub few : length (cores_in row) < 2 ^ 16
-  pub children : sum (slice_index_or levels below []) ≡ length row

@@ -1,10 +1,9 @@
-pub mod Below
 pub mod Beside
 pub mod Changes
 pub mod DepthRows
-pub mod Domains
 pub mod Inside
 pub mod Kept
 pub mod Recount
+pub mod Saved
 pub mod Standing
 pub mod Way

@@ -2,16 +2,12 @@
 use Rattle.std.specs.Prelude.{◌≡◌, ℕ, ◌<◌, ◌≤◌, List, ◌++◌, length, map, take, drop}
 use Rattle.std.specs.Prelude.{slice_index, slice_index_or}
 use Rattle.psci_board.specs.Board.{IsTree, place_above, size_below}
-use Rattle.psci_tree.specs.declared.domain.Domain.{Domain}
 use Rattle.psci_tree.specs.declared.way.Way.{Way}
 use Rattle.psci_tree.specs.Changes.{path_cleared}
-use Rattle.psci_tree.specs.Domains.{IsWayTo, IsWhole}
-use Rattle.psci_tree.specs.Kept.{IsKept}
 use Rattle.psci_tree.specs.Recount.{level_sizes}
 
--- of each domain on the path of a core, the number among its siblings, and the place
+-- of each domain on the path of a core, the place
 pub record IsWayOf (levels : List (List ℕ)) (core : ℕ) (way : Way) : Type 0 where
-  pub numbers : IsWayTo levels core way.numbers
   pub places : (l : ℕ) → l ≤ length levels
       → slice_index way.places l ≡ place_above levels l core
 
@@ -32,14 +28,6 @@ pub record LeadsTo (levels : List (List ℕ)) (c : ℕ) (w : Way) : Type 0 where
   pub high : length levels ≤ 3
   pub core : c < size_below levels
   pub way : IsWayOf levels c w
-
--- a way that leads to a core in a tree of domains of these levels, each of which keeps its recount
-pub record LeadsDown (levels : List (List ℕ)) (root : Domain) (c : ℕ) (w : Way) : Type 0 where
-  pub tree : IsTree levels
-  pub whole : IsWhole root levels
-  pub core : c < size_below levels
-  pub way : IsWayOf levels c w
-  pub kept : IsKept root
 
 -- rows of granted and of confirmed depths, one for each domain of these levels
 pub record AreRows (levels gs cs : List (List ℕ)) : Type 0 where

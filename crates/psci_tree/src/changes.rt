@@ -7,11 +7,12 @@ ghost use Rattle.psci_tree.specs.Changes.{MayGrant, suspended, turned_off, made_
 ghost use Rattle.psci_tree.specs.Changes.{with_grant, with_confirmed, with_core_state};
 ghost use Rattle.psci_tree.specs.Changes.{with_path_cleared, all_off, start_of_life};
 
+use crate::core_change::change_core;
 use crate::depths::Depths;
-use crate::descent::{change_core, turn_off};
+use crate::domains::turn_off;
 use crate::grants::{clear_up, depths_at, fill_rows, write};
 use crate::tree::{BOOT_CORE, Tree};
-use psci_board::{Core, Node};
+use psci_board::{Core, Node, law_spans};
 use psci_state::{Activity, Ask, Change, NEVER_STARTED};
 
 impl Tree {
@@ -100,7 +101,7 @@ impl Tree {
     }
 
     /// Changes what a core does, after the start of this number, if there was one.
-    fn set_core(&mut self, core: Core, activity: Activity, started: Option<u32>)
+    pub(crate) fn set_core(&mut self, core: Core, activity: Activity, started: Option<u32>)
         requires core { core.number < size_below self.old.levels }
         requires activity { IsActivity activity }
         ensures value { self.new ≡ with_core_state self.old core.number activity
@@ -112,14 +113,13 @@ impl Tree {
         let before = self.cores[number];
         let state = before.changed(&Change { activity, started });
         change_core(
-            &mut self.root,
+            &mut self.cores,
+            &mut self.kept,
             &self.board,
             core,
             &self.ways[number],
-            &before,
             &state,
         );
-        self.cores[number] = state;
     }
 
     /// Takes away what is granted and confirmed on the path of a core.
@@ -147,7 +147,8 @@ impl Tree {
         ensures levels { self.new.levels ≡ self.old.levels }
         ensures tree { IsDomainTree self.new }
     {
-        turn_off(&mut self.root, &self.board);
+        law_spans();
+        turn_off(&mut self.kept);
         fill_rows(&mut self.depths, Depths::DEEPEST);
         self.cores.fill(NEVER_STARTED);
     }

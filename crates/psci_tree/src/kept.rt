@@ -2,7 +2,7 @@
 
 ghost use Rattle.std.specs.Prelude.{◌≡◌, ℕ, ◌+◌, ◌<◌, ◌^◌, ◌∷◌, [], replicate};
 ghost use Rattle.psci_tree.specs.Recount.{never_started};
-ghost use Rattle.psci_tree.specs.Kept.{IsPart, Keeps, kept_exchanged, kept_together, lows_told};
+ghost use Rattle.psci_tree.specs.Kept.{IsPart, Keeps, kept_exchanged, lows_told};
 
 use psci_board::MOST_ON_PATH;
 use psci_state::{CoreState, POWER_DOWN};
@@ -23,19 +23,6 @@ pub struct Kept {
 }
 
 impl Kept {
-    /// What is kept of no core.
-    pub fn none() -> Kept
-        ensures { Keeps result [] }
-    {
-        Kept {
-            lows: [POWER_DOWN; MOST_ON_PATH],
-            known: 0,
-            cores: 0,
-            active: 0,
-            off: 0,
-        }
-    }
-
     /// What is kept of one core.
     pub fn of_core(core: &CoreState) -> Kept
         ensures { Keeps result (core.now ∷ []) }
@@ -61,26 +48,6 @@ impl Kept {
             active: 0,
             off: count,
         }
-    }
-
-    /// Joins what is kept of other cores beside these. Each low is written by itself, as no more
-    /// than its byte has to be.
-    pub fn join(&mut self, other: &Kept)
-        requires known { self.old.known + other.now.known < 2 ^ 64 }
-        requires cores { self.old.cores + other.now.cores < 2 ^ 32 }
-        requires active { self.old.active + other.now.active < 2 ^ 32 }
-        requires off { self.old.off + other.now.off < 2 ^ 32 }
-        ensures { self.new ≡ kept_together self.old other.now }
-    {
-        let [core, first, second, third] = self.lows;
-        self.lows[0] = core.min(other.lows[0]);
-        self.lows[1] = first.min(other.lows[1]);
-        self.lows[2] = second.min(other.lows[2]);
-        self.lows[3] = third.min(other.lows[3]);
-        self.known += other.known;
-        self.cores += other.cores;
-        self.active += other.active;
-        self.off += other.off;
     }
 
     /// What is kept once one of the cores came into another state: this was kept of it before, and

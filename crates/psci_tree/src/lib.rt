@@ -12,27 +12,35 @@
 //! - A granted depth is *confirmed* once the power controller said that the domain is at it.
 //! - How a domain *stands* is the least ask of it of the cores below, and the sum of their known
 //!   starts.
+//! - A tree is *saved* as two words a core, what it does (0 running or pending, the word of its
+//!   power state in the extended format, or 2^32 off) and its known start; and as two words a
+//!   domain: the granted depths, from level 0 up, and then what is confirmed.
 //! - A value of a domain *below* is recounted over all cores whose path the domain is on.
 #![tactic(auto)]
 
 mod beside;
-mod build;
 mod changes;
+mod core_change;
 mod depths;
-mod descent;
-mod domain;
+mod domains;
 mod grants;
 mod kept;
 mod laws;
+mod loading;
+mod saved;
+mod saved_laws;
+mod saving;
 mod standing;
 mod tree;
+mod tree_words;
 mod way;
 
-pub use domain::Domain;
 pub use laws::{
     law_asks, law_confirmed, law_cores, law_counts, law_granted, law_known, law_low,
     law_start_of_life, law_states,
 };
 pub use psci_state::Activity;
-pub use standing::Standings;
+pub use saved_laws::law_tree_words;
+pub use standing::Standing;
 pub use tree::Tree;
+pub use tree_words::are_cores;

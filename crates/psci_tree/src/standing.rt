@@ -1,12 +1,10 @@
-//! How the power domains on the path of a core stand.
+//! How a power domain on the path of a core stands.
 
-use psci_board::MOST_ON_PATH;
-
-/// What a claim on the power domains on the path of a core is made of, level by level.
+/// What a claim on a power domain is made of.
 #[derive(Clone, Copy)]
-pub struct Standings {
-    /// The least ask of each domain of the cores below.
-    pub lows: [u8; MOST_ON_PATH],
-    /// The sum of the known starts of the cores below each.
-    pub known: [u64; MOST_ON_PATH],
+pub struct Standing {
+    /// The least ask of the domain of the cores below it.
+    pub low: u8,
+    /// The sum of the known starts of the cores below it.
+    pub known: u64,
 }

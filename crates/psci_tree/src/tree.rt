@@ -1,12 +1,11 @@
 //! The tree of power domains.
 
 use crate::beside::{Rows, rows_of};
-use crate::build::root_of;
 use crate::depths::Depths;
-use crate::descent::{domain_at, standings_on};
-use crate::domain::Domain;
+use crate::domains::{kept_at, kept_of};
 use crate::grants::depths_at;
-use crate::standing::Standings;
+use crate::kept::Kept;
+use crate::standing::Standing;
 use crate::way::Way;
 use psci_board::{Board, Core, MOST_ON_PATH, Memory, Node, law_sizes, law_spans};
 use psci_state::{Activity, CoreState, NEVER_STARTED};
@@ -22,53 +21,47 @@ pub const BOOT_CORE: Core = Core { number: 0 };
 pub struct Tree {
     /// The board whose power domains they are.
     pub(crate) board: Board,
-    /// What is kept of each core, in the order of their numbers. Its leaf holds the same: here it
-    /// is read without a way down.
+    /// What is kept of each core, in the order of their numbers.
     pub(crate) cores: Vec<CoreState>,
     /// The way to each core, in the order of their numbers.
     pub(crate) ways: Vec<Way>,
     /// From level 0 up, the depths of each domain.
     pub(crate) depths: Vec<Vec<Depths>>,
-    /// The domain of the whole system, with all others below it.
-    pub(crate) root: Domain,
+    /// From level 1 up, what each domain keeps of the cores below it.
+    pub(crate) kept: Vec<Vec<Kept>>,
 }
 
 impl Model for Tree {
     ghost use Rattle.std.specs.Prelude.{map};
     ghost use Rattle.psci_tree.specs.Recount.{TreeValue};
     ghost use Rattle.psci_tree.specs.DepthRows.{confirmed_of, granted_of};
-    ghost use Rattle.psci_tree.specs.Domains.{leaves};
     ghost use Rattle.psci_tree.specs.Inside.{IsHeld};
 
     ghost Value = { TreeValue };
 
     ghost view = { λ t. record {
       levels = t.board.levels;
-      cores = leaves t.root;
+      cores = t.cores.items;
       granted = granted_of (map (λ v. v.items) t.depths.items);
       confirmed = confirmed_of (map (λ v. v.items) t.depths.items);
     } };
 
-    ghost invariant = { λ t. IsHeld t.root t.cores.items t.ways.items (record {
+    ghost invariant = { λ t. IsHeld (map (λ v. v.items) t.kept.items) t.ways.items (record {
       levels = t.board.levels;
-      cores = leaves t.root;
+      cores = t.cores.items;
       granted = granted_of (map (λ v. v.items) t.depths.items);
       confirmed = confirmed_of (map (λ v. v.items) t.depths.items);
     }) };
 }
 
-ghost use Rattle.std.specs.Prelude.{◌≡◌, ℕ, ◌<◌, ◌≤◌, map, length, replicate, IfOk, slice_index};
+ghost use Rattle.std.specs.Prelude.{◌≡◌, ℕ, ◌<◌, ◌≤◌, map, length, IfOk, slice_index};
 ghost use Rattle.psci_board.specs.Board.{BoardValue, IsBoard, size_below, HasNodeIn, below_in};
 ghost use Rattle.psci_board.specs.declared.node.Node.{Node};
-ghost use Rattle.psci_tree.specs.declared.domain.Domain.{Domain, out-Domain};
 ghost use Rattle.psci_tree.specs.Recount.{IsDomainTree, state_at, known_at, low, known, active};
 ghost use Rattle.psci_tree.specs.Recount.{off, granted_at, confirmed_at, is_confirmed_at};
-ghost use Rattle.psci_tree.specs.Recount.{never_started};
-ghost use Rattle.psci_tree.specs.Below.{IsBelow, IsOfNode};
 ghost use Rattle.psci_tree.specs.Beside.{AreFull};
 ghost use Rattle.psci_tree.specs.Changes.{all_off, start_of_life};
-ghost use Rattle.psci_tree.specs.Domains.{IsWhole, leaves};
-ghost use Rattle.psci_tree.specs.Kept.{IsKept, Keeps};
+ghost use Rattle.psci_tree.specs.Kept.{Keeps};
 ghost use Rattle.psci_tree.specs.Standing.{on_path};
 
 impl Tree {
@@ -80,27 +73,18 @@ impl Tree {
         ensures levels { IfOk result (λ tree. tree.value.levels ≡ board.now.levels) }
         ensures tree { IfOk result (λ tree. IsDomainTree tree.value) }
     {
-        let root = root_of(alloc, board)?;
         let rows = rows_of(alloc, board)?;
-        let mut tree = Tree::all_off(alloc, board, root, rows)?;
+        let mut tree = Tree::all_off(alloc, board, rows)?;
         law_sizes();
         tree.set_pending(BOOT_CORE);
         Ok(tree)
     }
 
-    /// The tree of a board, made of these domains and rows: every core is off, and every domain is
-    /// granted depth 3, which is confirmed. It has a frame of its own.
+    /// The tree of a board, made of these rows: every core is off, and every domain is granted
+    /// depth 3, which is confirmed. It has a frame of its own.
     #[inline(never)]
-    fn all_off(
-        alloc: Global,
-        board: &Board,
-        root: Box<Domain>,
-        rows: Box<Rows>,
-    ) -> Result<Box<Tree>, Memory>
-        requires whole { IsWhole root.value board.now.levels }
-        requires off { leaves root.value ≡ replicate (size_below board.now.levels) never_started }
-        requires kept { IsKept root.value }
-        requires rows { AreFull board.now rows.value }
+    fn all_off(alloc: Global, board: &Board, rows: Box<Rows>) -> Result<Box<Tree>, Memory>
+        requires { AreFull board.now rows.value }
         ensures value { IfOk result (λ tree. tree.value ≡ all_off board.now.levels) }
         ensures board { IfOk result (λ _. IsBoard board.now) }
     {
@@ -110,7 +94,7 @@ impl Tree {
             ways: rows.ways,
             depths: rows.depths,
             board: board.copy(alloc)?,
-            root: Box::into_inner(root),
+            kept: rows.kept,
         };
         Box::new(alloc, tree).map_err(|_| Memory)
     }
@@ -125,58 +109,56 @@ impl Tree {
         if level > self.board.height() {
             return 0;
         }
-        self.domain(node).kept.lows[level as usize]
+        self.kept(node).lows[level as usize]
     }
 
     /// The sum of the known starts of the cores below a domain.
-    #[tactic(auto, using(crate::proofs::PathStands::known_is))]
     pub fn known(&self, node: Node) -> u64
         requires { HasNodeIn self.now.levels node }
         ensures { result ≡ known self.now node }
     {
-        self.domain(node).kept.known
+        self.kept(node).known
     }
 
     /// How many cores below a domain are running or pending.
-    #[tactic(auto, using(crate::proofs::PathStands::active_is))]
     pub fn active(&self, node: Node) -> u32
         requires { HasNodeIn self.now.levels node }
         ensures { result ≡ active self.now node }
     {
-        self.domain(node).kept.active
-    }
-
-    /// The domains one level below a domain, from left to right, by one way down to it.
-    pub fn below(&self, node: Node) -> &[Domain]
-        requires { HasNodeIn self.now.levels node }
-        ensures { (b : BoardValue) (m : Node) (k : ℕ) → IsBelow self.now.levels b node m k
-            → IsOfNode self.now result.now m k }
-    {
-        law_spans();
-        &domain_at(&self.root, &self.board, node).children
+        self.kept(node).active
     }
 
     /// How many cores below a domain are off or going off.
-    #[tactic(auto, using(crate::proofs::PathStands::off_is))]
     pub fn off(&self, node: Node) -> u32
         requires { HasNodeIn self.now.levels node }
         ensures { result ≡ off self.now node }
     {
-        self.domain(node).kept.off
+        self.kept(node).off
     }
 
-    /// How the domains on the path of a core stand, each at the place of its level.
-    pub fn standings(&self, core: Core) -> Standings
-        requires { core.number < size_below self.now.levels }
-        ensures lows { (level : ℕ) → level ≤ length self.now.levels → slice_index result.lows level
+    /// How the domain of this level on the path of a core stands.
+    pub fn standing(&self, core: Core, level: u32) -> Standing
+        requires core { core.number < size_below self.now.levels }
+        requires level { level ≤ length self.now.levels }
+        ensures low { result.low
             ≡ low self.now (on_path self.now.levels core.number level) level }
-        ensures known { (level : ℕ) → level ≤ length self.now.levels
-            → slice_index result.known level
+        ensures known { result.known
             ≡ known self.now (on_path self.now.levels core.number level) }
     {
-        law_spans();
-        let way = &self.ways[core.number as usize];
-        standings_on(&self.root, &self.board, core, way)
+        let _height = self.board.height();
+        let node = self.on_path(core, level);
+        if level == 0 {
+            let own = self.kept(node);
+            return Standing {
+                low: own.lows[0],
+                known: own.known,
+            };
+        }
+        let kept = self.kept_above(node);
+        Standing {
+            low: kept.lows[level as usize],
+            known: kept.known,
+        }
     }
 
     /// The domain of this level on the path of a core.
@@ -191,16 +173,6 @@ impl Tree {
             level,
             place: way.places[level as usize],
         }
-    }
-
-    /// The sum of the known starts of the cores below each domain on the path of a core, each at
-    /// the place of its level.
-    pub fn known_on(&self, core: Core) -> [u64; MOST_ON_PATH]
-        requires { core.number < size_below self.now.levels }
-        ensures { (level : ℕ) → level ≤ length self.now.levels → slice_index result level
-            ≡ known self.now (on_path self.now.levels core.number level) }
-    {
-        self.standings(core).known
     }
 
     /// The place of each domain on the path of a core in its level, by the level.
@@ -280,14 +252,23 @@ impl Tree {
             .unwrap_or(NEVER_STARTED)
     }
 
-    /// The domain of a node.
-    fn domain(&self, node: Node) -> &Domain
-        requires { HasNodeIn self.now.levels node }
-        ensures cores { leaves result.now
-            ≡ map (λ c. state_at self.now c) (below_in self.now.levels node) }
-        ensures kept { Keeps (out-Domain result.now).kept (leaves result.now) }
+    /// What a domain above the cores keeps of those below it.
+    fn kept_above(&self, node: Node) -> &Kept
+        requires domain { HasNodeIn self.now.levels node }
+        requires above { 0 < node.level }
+        ensures { Keeps result.now
+            (map (λ c. state_at self.now c) (below_in self.now.levels node)) }
     {
         law_spans();
-        domain_at(&self.root, &self.board, node)
+        kept_at(&self.kept, node)
+    }
+
+    /// What is kept of the cores below a node.
+    fn kept(&self, node: Node) -> Kept
+        requires { HasNodeIn self.now.levels node }
+        ensures { Keeps result (map (λ c. state_at self.now c) (below_in self.now.levels node)) }
+    {
+        law_spans();
+        kept_of(&self.cores, &self.kept, node)
     }
 }

@@ -4,14 +4,12 @@ ghost use Rattle.std.specs.Prelude.{◌≡◌, ◌<◌, IfOk};
 ghost use Rattle.psci_board.specs.Board.{IsTree, size_below};
 ghost use Rattle.psci_tree.specs.Way.{AreWays, IsWayOf};
 
-use psci_board::{Board, Core, MOST_LEVELS, MOST_ON_PATH, Memory, Node};
+use psci_board::{Board, Core, MOST_ON_PATH, Memory, Node};
 use std::alloc::Global;
 
 /// Where a core and the domains above it stand in the tree, level by level.
 #[derive(Clone, Copy)]
 pub struct Way {
-    /// The number of each among its siblings, below the system.
-    pub numbers: [u32; MOST_LEVELS],
     /// The place of each in its level.
     pub places: [u16; MOST_ON_PATH],
 }
@@ -33,15 +31,13 @@ fn way_to(board: &Board, core: Core) -> Way
     requires core { core.number < size_below board.now.levels }
     ensures { IsWayOf board.now.levels core.number result }
 {
-    let mut numbers = [0; MOST_LEVELS];
     let mut places = [0; MOST_ON_PATH];
     let mut place = core.number;
     for level in 0..board.height() {
         let node = Node { level, place };
         places[level as usize] = place;
-        numbers[level as usize] = board.child_number(node).unwrap_or(0);
         place = board.parent(node).unwrap_or(node).place;
     }
     places[board.height() as usize] = place;
-    Way { numbers, places }
+    Way { places }
 }

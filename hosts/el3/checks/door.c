@@ -15,9 +15,9 @@
 struct shared shared;
 struct kept kept;
 struct psci_place firmware;
+struct psci_port_core sides[CORES];
 uint32_t taken;
 void take_ack(void) {}
-void open_first_door(void) { abort(); }
 void board_comes_out(void) {}
 void board_waits(void) { wait_for_interrupt(); }
 void gic_sleeps(void) {}
@@ -50,6 +50,7 @@ static void step(void) {
         irq = true;
     if (steps != opens_at)
         return;
+    door->start = (struct psci_ctl_start){.core = CORE, .life = 1, .number = starts, .cause = PSCI_CAUSE_WAKE};
     STORE(door->opened, starts);
     bell = true;
 }
@@ -70,9 +71,11 @@ void gic_ring(unsigned core) {
 }
 
 /* As link.c and stand.S have it. */
-struct last_word tell_stop(unsigned core, uint64_t used, enum caches caches) {
+struct last_word tell_stop(struct psci_port_core *side, enum caches caches) {
     (void)caches;
-    return (struct last_word){&shared.doors[core].stopped, used, {0, 1}};
+    if (psci_port_stands(side))
+        abort();
+    return (struct last_word){&shared.doors[CORE].stopped, side->used, {0, 1}};
 }
 
 void stand(const struct last_word *last, enum caches caches) {
@@ -83,8 +86,8 @@ void stand(const struct last_word *last, enum caches caches) {
     wait_for_interrupt();
 }
 
-void tell_wake_up(unsigned core, uint64_t used) {
-    STORE(shared.doors[core].woken, used);
+void tell_wake_up(struct psci_port_core *side) {
+    STORE(shared.doors[CORE].woken, side->told);
     gic_ring(SCP);
 }
 
@@ -106,15 +109,20 @@ void host_wait(void) {
     step();
 }
 
-/* An entry by the start that stands at the door, after which it is used. */
-void __wrap_psci_enter(struct psci_place *place, uint16_t core, uint32_t life, uint32_t number, uint32_t cause,
-                       struct psci_answer *answer) {
-    (void)place, (void)core, (void)life, (void)number, (void)cause;
-    *answer = (struct psci_answer){.what = PSCI_RESUME};
+/* An entry by the start that the core took up. */
+void __wrap_psci_port_enter(struct psci_place *place, struct psci_port_core *side, struct psci_port_orders *orders) {
+    (void)place;
+    if (side->post != PSCI_PORT_ENTERING || side->start.number != starts)
+        abort();
+    side->post = PSCI_PORT_RUNNING;
+    *orders = (struct psci_port_orders){.next = PSCI_PORT_RESUMES};
 }
 
 /* Whether the core comes through, and an interrupt is told once, which came before it would have slept. */
 static bool comes_through(unsigned opened, unsigned woken) {
+    struct psci_port_core *side = &sides[CORE];
+    side->post = PSCI_PORT_LEAVING;
+    side->stop = wakes ? PSCI_PORT_SUSPENDED : PSCI_PORT_OFF;
     steps = told = 0;
     opens_at = opened;
     wakes_at = woken;
@@ -122,15 +130,16 @@ static bool comes_through(unsigned opened, unsigned woken) {
     starts++;
     if (setjmp(stuck))
         return false;
-    wait_for_start(CORE, wakes, OWN_CACHES);
+    wait_for_start(side, OWN_CACHES);
     if (LOAD(shared.doors[CORE].opened) != starts)
         return false;
-    enter(CORE);
+    enter(side);
     return wakes && woken + 10 < opens_at ? told == 1 : told <= 1;
 }
 
 int main(void) {
     unsigned tried = 0;
+    psci_port_new(&sides[CORE], CORE);
     comes_through(1, 0);
     for (unsigned opened = 1; opened < MOST_STEPS; opened++)
         for (unsigned woken = 0; woken < MOST_STEPS; woken++) {

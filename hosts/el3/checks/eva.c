@@ -1,4 +1,4 @@
-/* What the library promises (psci.h, psci_ctl.h) and no more, in its place; and ways into the port, each from anything
+/* What the library promises (psci.h, psci_port.h) and no more, in its place; and ways into the port, each from anything
  * that the machine may hold there. */
 #include "__fc_builtin.h"
 #include "board.h"
@@ -24,7 +24,10 @@ void others_write(void) { anything(&shared, sizeof shared), kept.boot = any_word
 
 /* The firmware ------------------------------------------------------------------------------- */
 
-static uint32_t a_refusal(void) { return any(PSCI_NO_FIRMWARE, PSCI_NO_CAUSE); }
+/* Few enough values that Eva knows each of them, which is not the one beside. */
+static uint32_t a_refusal(void) {
+    return any(0, 1) ? any(PSCI_NO_FIRMWARE, PSCI_NO_CAUSE) : any(PSCI_PORT_NO_SIDE, PSCI_PORT_OUT_OF_ORDER);
+}
 
 uint32_t psci_open_board(struct psci_place *place, const struct psci_board *of) {
     return (void)place, (void)of, any(PSCI_OPENED, PSCI_NO_MEMORY);
@@ -39,35 +42,62 @@ uint32_t psci_open_machine(struct psci_place *place, const struct psci_board *of
     return (void)place, (void)of, (void)words, (void)boot, any(PSCI_OPENED, PSCI_MACHINE_BAD_FUNCTIONS);
 }
 
-void psci_smc(struct psci_place *place, uint16_t core, uint64_t x0, uint64_t x1, uint64_t x2, uint64_t x3,
-              struct psci_answer *answer) {
-    (void)place, (void)x0, (void)x1, (void)x2, (void)x3;
-    //@ assert core_of_the_board: core < 4;
-    answer->what = any(0, 1) ? any(PSCI_RETURN, PSCI_STOP) : a_refusal();
-    answer->code = Frama_C_interval(-9, 0x10001);
-    answer->address = answer->context = 0;
-    a_frame(&answer->message);
-    answer->asked.what = any(PSCI_ASKS_NOTHING, PSCI_ASKS_RESET);
-    answer->asked.reset = any(0, ~0u);
-    anything(answer->asked.states, sizeof answer->asked.states);
+static void a_core(struct psci_port_core *it) {
+    it->post = any(PSCI_PORT_WAITING, PSCI_PORT_WOKEN), it->stop = any(PSCI_PORT_OFF, PSCI_PORT_ENDING);
+    it->used = any(0, ~0u), it->told = any(0, ~0u), it->cause = any(PSCI_CAUSE_BOOT, PSCI_CAUSE_RESET);
+    it->start.core = it->core, it->start.cause = it->cause;
+    it->start.life = any(0, 65535), it->start.number = any(0, ~0u);
 }
 
-void psci_enter(struct psci_place *place, uint16_t core, uint32_t life, uint32_t start, uint32_t cause,
-                struct psci_answer *answer) {
-    (void)place, (void)life, (void)start, (void)cause;
-    //@ assert core_of_the_board: core < 4;
-    answer->what = any(0, 1) ? any(PSCI_STOP, PSCI_RESUME) : a_refusal();
-    answer->code = 0;
-    answer->address = any_word, answer->context = any_word;
-    a_frame(&answer->message);
+void psci_port_new(struct psci_port_core *it, uint16_t core) {
+    it->core = core;
+    a_core(it);
 }
 
-void psci_stop(struct psci_place *place, uint16_t core, uint64_t x0, struct psci_stop *how) {
-    (void)place, (void)core, (void)x0;
+/* An order, or a refusal, of which nothing is to be done. */
+static void port_orders(struct psci_port_core *it, struct psci_port_orders *orders) {
+    //@ assert core_of_the_board: it->core < 4;
+    a_core(it);
+    orders->next = any(0, 1) ? any(PSCI_PORT_LEAVES, PSCI_PORT_STANDS) : a_refusal();
+    orders->cause = any(PSCI_CAUSE_BOOT, PSCI_CAUSE_RESET), orders->stop = any(PSCI_PORT_OFF, PSCI_PORT_ENDING);
+    orders->x0 = any_word, orders->address = any_word;
+    a_frame(&orders->message);
     for (unsigned level = 0; level < 4; level++)
-        how->depths[level] = any(PSCI_CTL_ON, PSCI_CTL_POWER_DOWN);
-    how->wakes = any(0, 1);
+        orders->depths[level] = any(PSCI_CTL_ON, PSCI_CTL_POWER_DOWN);
+    orders->asked.what = any(PSCI_ASKS_NOTHING, PSCI_ASKS_RESET);
+    orders->asked.reset = any(0, ~0u);
+    anything(orders->asked.states, sizeof orders->asked.states);
 }
+
+void psci_port_call(struct psci_place *place, struct psci_port_core *it, uint64_t x0, uint64_t x1, uint64_t x2, uint64_t x3,
+                    struct psci_port_orders *orders) {
+    (void)place, (void)x0, (void)x1, (void)x2, (void)x3;
+    port_orders(it, orders);
+}
+
+void psci_port_enter(struct psci_place *place, struct psci_port_core *it, struct psci_port_orders *orders) {
+    (void)place;
+    port_orders(it, orders);
+}
+
+static uint32_t a_turn(struct psci_port_core *it) {
+    a_core(it);
+    return any(0, 1) ? 0 : any(PSCI_PORT_NO_SIDE, PSCI_PORT_OUT_OF_ORDER);
+}
+
+uint32_t psci_port_look(struct psci_port_core *it, const struct psci_port_door *door, bool pending) {
+    (void)pending;
+    //@ assert a_door_is_there: \initialized(&door->opened) && \initialized(&door->start.number);
+    return any(0, 1) ? any(PSCI_PORT_TAKES_UP, PSCI_PORT_RESTS) : a_turn(it);
+}
+
+uint32_t psci_port_stands(struct psci_port_core *it) { return a_turn(it); }
+uint32_t psci_port_arms(struct psci_port_core *it) { return a_turn(it); }
+uint32_t psci_port_sleeps(struct psci_port_core *it) { return a_turn(it); }
+uint32_t psci_port_rouses(struct psci_port_core *it) { return a_turn(it); }
+uint32_t psci_port_rises(struct psci_port_core *it, bool started) { return (void)started, a_turn(it); }
+uint32_t psci_port_turns(struct psci_port_core *it) { return a_turn(it); }
+uint32_t psci_port_comes_back(struct psci_port_core *it) { return a_turn(it); }
 
 uint32_t psci_take(struct psci_place *place, const uint8_t *frame, size_t length) {
     (void)place;
@@ -75,10 +105,13 @@ uint32_t psci_take(struct psci_place *place, const uint8_t *frame, size_t length
     return any(0, 1) ? any(PSCI_USED, PSCI_OLD) : any(PSCI_NO_FIRMWARE, PSCI_FRAME_NOT_AN_ACK);
 }
 
-void psci_outstanding(struct psci_place *place, uint16_t of, struct psci_frame *it) {
+uint32_t psci_port_again(struct psci_place *place, uint16_t number, struct psci_port_sent *last, struct psci_frame *it) {
     (void)place;
-    //@ assert core_or_system: of <= 4;
+    //@ assert core_or_system: number <= 4;
+    //@ assert a_look_is_there: \initialized(&last->kind) && \initialized(&last->life) && \initialized(&last->number);
+    last->kind = any(0, PSCI_MESSAGE_RESET), last->life = any(0, 65535), last->number = any(0, ~0u);
     a_frame(it);
+    return any(0, 1) ? any(PSCI_PORT_NONE, PSCI_PORT_AGAIN) : any(PSCI_NO_FIRMWARE, PSCI_NO_CORE);
 }
 
 uint16_t psci_core_of(struct psci_place *place, uint64_t mpidr) {
@@ -87,18 +120,6 @@ uint16_t psci_core_of(struct psci_place *place, uint64_t mpidr) {
 
 int32_t psci_poll(struct psci_poller *poller, uint64_t word) { return (void)poller, (void)word, Frama_C_interval(-2, 16); }
 
-uint32_t psci_decode(struct psci_place *place, const uint8_t *frame, size_t length, struct psci_message *it) {
-    (void)place;
-    //@ assert a_frame_is_there: \initialized(frame + (0 .. length - 1));
-    if (any(0, 1))
-        return any(PSCI_NO_FIRMWARE, PSCI_FRAME_LEVEL);
-    it->kind = any(PSCI_MESSAGE_DOWN, PSCI_STALE_ACK + PSCI_MESSAGE_RESET);
-    it->count = any(0, PSCI_MOST_PARTS);
-    it->core = any(0, CORES - 1);
-    it->life = any(0, 65535), it->number = any(0, ~0u);
-    return 0;
-}
-
 /* The power controller ----------------------------------------------------------------------- */
 
 static void a_start(struct psci_ctl_start *it) {
@@ -106,42 +127,59 @@ static void a_start(struct psci_ctl_start *it) {
     it->life = any(0, 65535), it->number = any(0, ~0u), it->cause = any(PSCI_CAUSE_BOOT, PSCI_CAUSE_RESET);
 }
 
-static void an_answer(struct psci_ctl_answer *it) {
-    it->what = any(0, 1) ? any(PSCI_CTL_NOTHING, PSCI_CTL_RESTART) : any(PSCI_CTL_NO_PLACE, PSCI_CTL_NOT_A_MESSAGE);
+static void control_orders(struct psci_control_orders *it, bool waits) {
+    it->what = any(0, 1) ? any(PSCI_CONTROL_ORDERS, waits) : a_refusal();
     it->many = any(0, LEVELS);
     for (unsigned at = 0; at < 4; at++)
         it->domains[at] = (struct psci_ctl_domain){any(0, LEVELS - 1), any(0, CORES - 1), any(0, 3)};
     a_start(&it->start);
     a_frame(&it->ack);
+    it->ends = any(PSCI_CONTROL_GOES_ON, PSCI_CONTROL_RESTART);
 }
 
-uint32_t psci_ctl_open_board(struct psci_ctl_place *place, const struct psci_board *of) {
+uint32_t psci_control_open_board(struct psci_control_place *place, const struct psci_board *of) {
     return (void)place, (void)of, any(PSCI_OPENED, PSCI_NO_MEMORY);
 }
 
-void psci_ctl_deliver(struct psci_ctl_place *place, const uint8_t *frame, size_t length, struct psci_ctl_answer *answer) {
+/* What waits is a frame of the board, whose fourth byte is its core. */
+void psci_control_message(struct psci_control_place *place, const uint8_t *frame, size_t length,
+                          struct psci_control_orders *orders) {
     (void)place;
     //@ assert a_frame_is_there: \initialized(frame + (0 .. length - 1));
-    an_answer(answer);
+    control_orders(orders, frame[3] < CORES);
 }
 
-void psci_ctl_wake(struct psci_ctl_place *place, uint16_t core, uint32_t halted, struct psci_ctl_answer *answer) {
-    (void)place, (void)halted;
-    //@ assert core_of_the_board: core < 4;
-    an_answer(answer);
-}
-
-void psci_ctl_started(struct psci_ctl_place *place, uint16_t core, struct psci_ctl_start *start) {
-    (void)place, (void)core;
-    a_start(start);
-}
-
-uint32_t psci_ctl_life(struct psci_ctl_place *place) { return (void)place, any(0, 65535); }
-
-uint32_t psci_ctl_starts(struct psci_ctl_place *place, uint16_t core) {
+void psci_control_waited(struct psci_control_place *place, uint16_t core, struct psci_control_orders *orders) {
     (void)place;
     //@ assert core_of_the_board: core < 4;
-    return any_word;
+    control_orders(orders, true);
+}
+
+void psci_control_wake(struct psci_control_place *place, uint16_t core, struct psci_control_orders *orders) {
+    (void)place;
+    //@ assert core_of_the_board: core < 4;
+    control_orders(orders, true);
+}
+
+uint32_t psci_control_stands(struct psci_control_place *place, uint16_t core, uint32_t word) {
+    (void)place, (void)word;
+    //@ assert core_of_the_board: core < 4;
+    return any(0, 1) ? 0 : any(PSCI_NO_FIRMWARE, PSCI_NO_CAUSE);
+}
+
+/* A refusal writes nothing. */
+uint32_t psci_control_door(struct psci_control_place *place, uint16_t core, struct psci_port_door *door) {
+    (void)place;
+    //@ assert core_of_the_board: core < 4;
+    if (any(0, 1))
+        return any(PSCI_NO_FIRMWARE, PSCI_NO_CAUSE);
+    a_start(&door->start);
+    door->opened = any(0, ~0u);
+    return any(PSCI_CONTROL_NOTHING, PSCI_CONTROL_OPEN);
+}
+
+uint16_t psci_control_rings(struct psci_control_place *place) {
+    return (void)place, any(0, 1) ? any(0, CORES - 1) : 0xffff;
 }
 
 /* The machine -------------------------------------------------------------------------------- */
@@ -175,6 +213,8 @@ void on_fiq(void);
 
 static void somewhere(void) {
     number = any(0, CORES - 1);
+    for (unsigned core = 0; core < CORES; core++)
+        psci_port_new(&sides[core], core);
     anything(&kept, sizeof kept);
     others_write();
 }

@@ -28,6 +28,7 @@ void board_begins(void) {}
 /* What shared.c has. */
 struct psci_place firmware;
 struct psci_poller pollers[CORES];
+struct psci_port_core sides[CORES];
 
 int main(void) {
     start_machine();

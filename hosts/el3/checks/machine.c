@@ -19,7 +19,12 @@ struct cpu cpus[THREADS];
 _Thread_local struct cpu *me;
 struct life life = {.lives = 1, .presses = 0};
 
-static const uint64_t mpidrs[] = {MPIDRS, SCP_MPIDR};
+static const uint64_t mpidrs[] = {
+    MPIDRS,
+#ifdef SCP_MPIDR
+    SCP_MPIDR,
+#endif
+};
 static uint32_t is_started, dying, arrived;
 /* Of each number the core that is rung by it, once it has come out of reset. */
 static struct cpu *bells[THREADS];
@@ -84,12 +89,14 @@ void press(void) {
     PUT(dying, 1);
 }
 
-/* The control processor has set a pin: the machine goes off, or is reset once all cores are there. */
+/* This core has set a pin: the machine goes off, or is reset once all cores are there. */
 static _Noreturn void obey_pins(void) {
+    me->ends = false;
     if (pins[1] || ++life.lives > life.most) {
         PUT(life.is_over, 1);
         pthread_exit(NULL);
     }
+    look_at_memory();
     PUT(dying, 1);
     come_out();
 }
@@ -98,6 +105,7 @@ static _Noreturn void obey_pins(void) {
 
 volatile uint32_t *host_device(uintptr_t address) {
     bool is_pin = address >= PINS && address < PINS + sizeof pins;
+    me->ends |= is_pin;
     return is_pin ? &pins[(address - PINS) / 4] : &other;
 }
 
@@ -106,6 +114,8 @@ uint64_t host_read(const char *name) {
         return mpidrs[me->id] | 0x80000000;
     if (strcmp(name, "cntfrq_el0") == 0)
         return 50 * 1000000ull; /* a period of the link is a millisecond */
+    if (strcmp(name, "spsr_el3") == 0)
+        return me->has_begun ? 0x3c9 : 0;
     return strcmp(name, "cntpct_el0") == 0 ? now() : 0;
 }
 
@@ -114,6 +124,12 @@ void host_write(const char *name, uint64_t value) {
         PUT(me->deadline, now() + value);
     else if (!value)
         PUT(me->deadline, 0);
+}
+
+/* Behind each word that is stored for others. */
+void is_slow(void) {
+    if (draw(4) == 0)
+        nap(draw(100));
 }
 
 uint64_t *host_place(void) { return &me->number; }
@@ -127,7 +143,7 @@ static bool is_time(void) { return GET(me->deadline) && GET(me->deadline) <= now
 
 /* It ends by what is pending, and by nothing else. */
 void host_wait(void) {
-    if (me->id == SCP && (pins[1] || pins[2]))
+    if (me->ends)
         obey_pins();
     if (me->id == SCP)
         owes_no_bell();
@@ -148,7 +164,8 @@ void stand(const struct last_word *last, enum caches caches) {
     if (draw(3) == 0)
         nap(draw(1000));
     cleans(caches);
-    STORE(*last->word, last->says);
+    if (last->word)
+        STORE(*last->word, last->says);
     if (last->bell.value)
         gic_ring(SCP);
     host_wait();
@@ -201,14 +218,6 @@ bool gic_answer(void) {
 void console_take(void) { flockfile(life.told); }
 void console_give(void) { funlockfile(life.told); }
 
-static void say_frame(const uint8_t *frame) {
-    unsigned length = PSCI_FRAME_LEN;
-    while (length && !frame[length - 1])
-        length--;
-    for (unsigned at = 0; at < length; at++)
-        fprintf(life.told, "%02x", frame[at]);
-}
-
 static void say_form(const char *form, va_list *rest) {
     for (; *form; form++) {
         if (*form != '%') {
@@ -217,13 +226,13 @@ static void say_form(const char *form, va_list *rest) {
         }
         switch (*++form) {
         case 'u': fprintf(life.told, "%u", va_arg(*rest, unsigned)); break;
-        case 'd': fprintf(life.told, "%d", va_arg(*rest, int)); break;
         case 'x': fprintf(life.told, "0x%llx", (unsigned long long)va_arg(*rest, uint64_t)); break;
         case 's': fputs(va_arg(*rest, const char *), life.told); break;
-        case 'f': say_frame(va_arg(*rest, const uint8_t *)); break;
         }
     }
 }
+
+void say_bytes(const uint8_t *bytes, uint32_t many) { fwrite(bytes, 1, many, life.told); }
 
 void say_part(const char *form, ...) {
     va_list rest;

@@ -32,7 +32,11 @@ static inline const volatile uint64_t *stack_end(unsigned at) {
     (void)at;
     return &nothing;
 }
+#ifdef CACHES
+void clean(const void *first, const void *end);
+#else
 static inline void clean(const void *first, const void *end) { (void)first, (void)end; }
+#endif
 static inline uint64_t behind_caches(const uint64_t *word) { return __atomic_load_n(word, __ATOMIC_SEQ_CST); }
 static inline void wait_for_interrupt(void) { host_wait(); }
 static inline void relax(void) { host_relax(); }

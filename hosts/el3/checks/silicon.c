@@ -1,5 +1,5 @@
 /* The port's assembly as a program, on processors that replaced.c plays: resets, the way from the normal world and
- * back, stops, what is said of workarounds, and a GICv3's redistributors. */
+ * back, stops, what is said of workarounds and let through of features, and a GICv3's redistributors. */
 #include "silicon.h"
 
 #include "context.h"
@@ -171,12 +171,13 @@ static void try_workarounds(void) {
         }
 }
 
-/* Each redistributor follows, some time after it was told. */
+/* Each redistributor follows, some time after it was told, and has settled what was written. */
 static void *follow(void *unused) {
     (void)unused;
     for (;;) {
         usleep(300);
         for (unsigned k = 0; k < CORES + 1; k++) {
+            mmio32(GICR + 0x20000 * k) &= ~8u;
             uint32_t told = mmio32(GICR + 0x20000 * k + 0x14);
             mmio32(GICR + 0x20000 * k + 0x14) = (told & ~4u) | (told & 2) << 1;
         }
@@ -206,6 +207,10 @@ static void try_redistributors(void) {
         gic_rises();
         if (*waker)
             is_wrong("a redistributor sleeps as its core comes back", *waker);
+        mmio32(GICR + 0x20000 * (CORES - number)) = 8; /* RWP */
+        gic_forget();
+        if (mmio32(GICR + 0x20000 * (CORES - number)))
+            is_wrong("what is written into a redistributor is not waited for", number);
         tried++;
     }
 }
@@ -232,6 +237,7 @@ int main(void) {
     try_vectors();
     try_stops();
     try_workarounds();
+    try_features();
     try_redistributors();
     mmap((void *)GICD, 0x10000, PROT_READ | PROT_WRITE, MAP_PRIVATE | MAP_ANONYMOUS | MAP_FIXED, -1, 0);
     try_distributor(v2_gic_start);

@@ -60,5 +60,5 @@ extern unsigned wrong, tried;
 void is_wrong(const char *what, uint64_t value);
 void power_on(uint64_t midr, uint64_t mpidr, unsigned csv2, unsigned ssbs);
 void replace(void);
-void try_stops(void);
+void try_stops(void), try_features(void);
 #endif

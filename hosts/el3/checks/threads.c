@@ -37,12 +37,13 @@ static bool is_asked(uint64_t x0, uint64_t x1) {
 
 /* What belongs into x0: the code of a call, as wide as its function has it, and 0 of one that resumed. */
 static uint64_t wanted(uint64_t x0, uint64_t x1) {
-    bool is_poll = (x0 & 0x1f) == 4, is_stop = me->answer.what == PSCI_STOP || me->answer.what == PSCI_RESUME;
+    uint32_t next = me->orders.next;
+    bool is_poll = (x0 & 0x1f) == 4, is_stop = next == PSCI_PORT_STANDS || next == PSCI_PORT_RESUMES;
     if (!is_psci(x0))
         return ~0ull;
     if (!is_asked(x0, x1))
         return 0;
-    int32_t code = is_poll && me->answer.what == PSCI_ENTER ? me->polled : is_stop ? 0 : me->answer.code;
+    int32_t code = is_poll && next == PSCI_PORT_ENTERS ? me->polled : is_stop ? 0 : (int32_t)me->orders.x0;
     return x0 & SMC64 ? (uint64_t)(int64_t)code : (uint32_t)code;
 }
 
@@ -64,7 +65,7 @@ static void call(uint64_t x0, uint64_t x1, uint64_t x2, uint64_t x3) {
     for (unsigned at = 4; at < 19; at++)
         context.x[at] = 0x5a00 + at;
     PUT(me->calls, me->calls + 1);
-    me->answer.what = PSCI_ENTER;
+    me->orders.next = PSCI_PORT_ENTERS;
     on_exception(&context, SMC);
     look_at(&context, x, asked);
 }
@@ -96,9 +97,9 @@ static void drawn_call(uint64_t target, uint64_t context) {
 /* It enters with what was asked: the boot core at first with its device tree. */
 static void look_at_entry(void) {
     bool is_boot = me->cause == PSCI_CAUSE_BOOT;
-    if (me->answer.what != PSCI_ENTER || me->address != me->answer.address)
+    if (me->orders.next != PSCI_PORT_ENTERS || me->address != me->orders.address)
         is_wrong("the address of an entry", me->address);
-    if (me->context != (is_boot ? DEVICE_TREE : me->answer.context))
+    if (me->context != (is_boot ? DEVICE_TREE : me->orders.x0))
         is_wrong("x0 at an entry", me->context);
     if (!is_boot && me->context != CALLER + me->id && me->context != SLEEPER + me->id)
         is_wrong("x0 at an entry is that of another core", me->context);

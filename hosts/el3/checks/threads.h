@@ -1,4 +1,4 @@
-/* The port's C files with a thread for each core, and one for the control processor. */
+/* The port's C files with a thread for each core, and one for the control processor, where there is one. */
 #ifndef THREADS_H
 #define THREADS_H
 
@@ -13,7 +13,11 @@
 #define GET(word) __atomic_load_n(&(word), __ATOMIC_RELAXED)
 #define PUT(word, value) __atomic_store_n(&(word), value, __ATOMIC_RELAXED)
 
+#ifdef SCP_MPIDR
 enum { THREADS = CORES + 1 };
+#else
+enum { THREADS = CORES, SCP = CORES }; /* which is nobody */
+#endif
 
 struct cpu {
     unsigned id;
@@ -25,9 +29,9 @@ struct cpu {
     /* where it goes at a reset, and at an entry; what it enters by */
     jmp_buf reset, world;
     uint64_t address, context;
-    bool has_begun;
-    /* what the library said to this core last, and how often it was asked (watch.c) */
-    struct psci_answer answer;
+    bool has_begun, ends;
+    /* what the library ordered of this core last, and how often it was asked (watch.c) */
+    struct psci_port_orders orders;
     int32_t polled;
     uint32_t cause, asked;
 };
@@ -54,5 +58,6 @@ void *watch(void *);
 void look_at_doors(void); /* as a life ends: whether a core sleeps that was started, and that nobody rings any more */
 void executes(void); /* by a core that does not stand in its stop */
 void cleans(enum caches), nobody_cleans(void); /* by a core, its caches; at a reset, none is left to clean */
+void look_at_memory(void); /* as a pin resets the machine: what outlives that, and stands in caches alone */
 void has_rung(void), owes_no_bell(void); /* the control processor has rung a core; it is about to sleep */
 #endif

@@ -4,6 +4,8 @@
 
 #include "link.h"
 
+#include "hooks.h"
+
 #include <string.h>
 #include <unistd.h>
 
@@ -14,8 +16,6 @@ enum { MOST_WAIT = 20000000000ull };
  * processor reads these once it has seen that the core stands, so the port's own words have to order the two. */
 static struct { bool wakes; unsigned executed; } stands[CORES];
 static volatile unsigned seen;
-/* Of each core the start in whose stop it was woken. */
-static uint64_t woken[CORES];
 
 /* How often each core was about to stop, and had its caches clean by then; and how often each was as this one stopped. */
 static uint32_t stops[CORES], cleaned[CORES];
@@ -33,24 +33,25 @@ void executes(void) {
 
 /* The firmware ------------------------------------------------------------------------------- */
 
-void __real_psci_smc(struct psci_place *, uint16_t, uint64_t, uint64_t, uint64_t, uint64_t, struct psci_answer *);
-void __wrap_psci_smc(struct psci_place *place, uint16_t core, uint64_t x0, uint64_t x1, uint64_t x2, uint64_t x3,
-                     struct psci_answer *answer) {
-    __real_psci_smc(place, core, x0, x1, x2, x3, answer);
-    me->answer = *answer;
-    me->asked++;
-    if (answer->what == PSCI_STOP)
-        executes();
-    look();
-}
-
-void __real_psci_stop(struct psci_place *, uint16_t, uint64_t, struct psci_stop *);
-void __wrap_psci_stop(struct psci_place *place, uint16_t core, uint64_t x0, struct psci_stop *how) {
-    __real_psci_stop(place, core, x0, how);
-    stands[core].wakes = how->wakes;
+/* It is about to stop, under the lock. */
+static void begins_to_stop(unsigned core, bool wakes) {
+    executes();
+    stands[core].wakes = wakes;
     PUT(stops[core], GET(stops[core]) + 1);
     for (unsigned other = 0; other < CORES; other++)
         before[other] = GET(stops[other]);
+}
+
+void __real_psci_port_call(struct psci_place *, struct psci_port_core *, uint64_t, uint64_t, uint64_t, uint64_t,
+                           struct psci_port_orders *);
+void __wrap_psci_port_call(struct psci_place *place, struct psci_port_core *side, uint64_t x0, uint64_t x1, uint64_t x2,
+                           uint64_t x3, struct psci_port_orders *orders) {
+    __real_psci_port_call(place, side, x0, x1, x2, x3, orders);
+    me->orders = *orders;
+    me->asked++;
+    if (orders->next == PSCI_PORT_STANDS)
+        begins_to_stop(side->core, orders->stop == PSCI_PORT_SUSPENDED);
+    look();
 }
 
 void nobody_cleans(void) {
@@ -67,13 +68,22 @@ void cleans(enum caches caches) {
             is_wrong("the caches of a cluster are cleaned before those of this core", other);
 }
 
-void __real_psci_enter(struct psci_place *, uint16_t, uint32_t, uint32_t, uint32_t, struct psci_answer *);
-void __wrap_psci_enter(struct psci_place *place, uint16_t core, uint32_t in_life, uint32_t number, uint32_t cause,
-                       struct psci_answer *answer) {
-    __real_psci_enter(place, core, in_life, number, cause, answer);
-    me->answer = *answer;
+/* What a line cuts is lost: the core has its caches clean, and is behind its last word. */
+void board_resets(unsigned core) {
+    if (GET(cleaned[core]) != GET(stops[core]))
+        is_wrong("a core is reset before its caches are clean", core);
+}
+
+void __real_psci_port_enter(struct psci_place *, struct psci_port_core *, struct psci_port_orders *);
+void __wrap_psci_port_enter(struct psci_place *place, struct psci_port_core *side, struct psci_port_orders *orders) {
+    uint32_t cause = side->start.cause;
+    __real_psci_port_enter(place, side, orders);
+    me->orders = *orders;
     me->cause = cause;
-    stands[core].wakes = false;
+    if (me->orders.next == PSCI_PORT_STANDS)
+        begins_to_stop(side->core, false);
+    else
+        stands[side->core].wakes = false;
     executes();
     look();
 }
@@ -89,35 +99,41 @@ int32_t __wrap_psci_poll(struct psci_poller *poller, uint64_t affinity) {
 
 /* The power controller ----------------------------------------------------------------------- */
 
+/* A core has said so once it was started: before, it comes out of reset beside all others, and says nothing. */
+static bool says_that_it_stands(unsigned core) {
+    uint64_t opened = shared.doors[core].opened;
+    return opened && LOAD(shared.doors[core].stopped) == opened;
+}
+
 /* What cores did last that are switched, and stand in their stop by what they say, is read here: ThreadSanitizer tells
  * where they still do something. */
-static void look_at_cores(const struct psci_ctl_answer *answer) {
-    for (unsigned at = 0; at < answer->many; at++)
+static void look_at_cores(const struct psci_control_orders *orders) {
+    for (unsigned at = 0; at < orders->many; at++)
         for (unsigned core = 0; core < CORES; core++)
-            if (paths[core][answer->domains[at].level] == answer->domains[at].index
-                && LOAD(shared.doors[core].stopped) == shared.doors[core].opened)
+            if (paths[core][orders->domains[at].level] == orders->domains[at].index && says_that_it_stands(core))
                 seen += stands[core].executed;
 }
 
-void __real_psci_ctl_deliver(struct psci_ctl_place *, const uint8_t *, size_t, struct psci_ctl_answer *);
-void __wrap_psci_ctl_deliver(struct psci_ctl_place *place, const uint8_t *frame, size_t length,
-                             struct psci_ctl_answer *answer) {
-    __real_psci_ctl_deliver(place, frame, length, answer);
-    if (answer->what < PSCI_CTL_NO_PLACE && answer->what != PSCI_CTL_START)
-        look_at_cores(answer);
+void __real_psci_control_message(struct psci_control_place *, const uint8_t *, size_t, struct psci_control_orders *);
+void __wrap_psci_control_message(struct psci_control_place *place, const uint8_t *frame, size_t length,
+                                 struct psci_control_orders *orders) {
+    __real_psci_control_message(place, frame, length, orders);
+    look_at_cores(orders);
     look();
 }
 
-void __real_psci_ctl_wake(struct psci_ctl_place *, uint16_t, uint32_t, struct psci_ctl_answer *);
-void __wrap_psci_ctl_wake(struct psci_ctl_place *place, uint16_t core, uint32_t halted,
-                          struct psci_ctl_answer *answer) {
-    uint64_t start = start_word(psci_ctl_life(place), halted);
-    if (!stands[core].wakes)
+void __real_psci_control_waited(struct psci_control_place *, uint16_t, struct psci_control_orders *);
+void __wrap_psci_control_waited(struct psci_control_place *place, uint16_t core, struct psci_control_orders *orders) {
+    __real_psci_control_waited(place, core, orders);
+    look_at_cores(orders);
+    look();
+}
+
+void __real_psci_control_wake(struct psci_control_place *, uint16_t, struct psci_control_orders *);
+void __wrap_psci_control_wake(struct psci_control_place *place, uint16_t core, struct psci_control_orders *orders) {
+    __real_psci_control_wake(place, core, orders);
+    if (orders->what == PSCI_CONTROL_ORDERS && !stands[core].wakes)
         is_wrong("a core is woken that is off, or parks", core);
-    if (woken[core] == start)
-        is_wrong("a core is woken twice in one stop", core);
-    woken[core] = start;
-    __real_psci_ctl_wake(place, core, halted, answer);
     look();
 }
 
@@ -126,6 +142,7 @@ void __wrap_psci_ctl_wake(struct psci_ctl_place *place, uint16_t core, uint32_t 
 static uint64_t owed[CORES];
 static bool owes;
 
+#ifdef SCP_MPIDR
 bool __real_put_frame(struct ring *, const uint8_t *);
 bool __wrap_put_frame(struct ring *ring, const uint8_t *frame) {
     bool was_put = __real_put_frame(ring, frame);
@@ -136,6 +153,7 @@ bool __wrap_put_frame(struct ring *ring, const uint8_t *frame) {
     owes = true;
     return true;
 }
+#endif
 
 void has_rung(void) { owes = false; }
 
@@ -150,16 +168,39 @@ void owes_no_bell(void) {
 }
 
 /* Both sides begin anew, in life 1. */
-uint32_t __real_psci_ctl_open_board(struct psci_ctl_place *, const struct psci_board *);
-uint32_t __wrap_psci_ctl_open_board(struct psci_ctl_place *place, const struct psci_board *of) {
-    memset(woken, 0, sizeof woken);
+uint32_t __real_psci_control_open_board(struct psci_control_place *, const struct psci_board *);
+uint32_t __wrap_psci_control_open_board(struct psci_control_place *place, const struct psci_board *of) {
     owes = false;
-    return __real_psci_ctl_open_board(place, of);
+    return __real_psci_control_open_board(place, of);
 }
 
-/* What is left undone: of these looks ThreadSanitizer knows nothing ----------------------------- */
+/* Of these looks ThreadSanitizer knows nothing --------------------------------------------------- */
 
 #define UNSEEN __attribute__((no_sanitize_thread, noinline))
+
+/* What outlives a reset, as it was in memory when it was cleaned last. Cores count on in the tally. */
+extern char kept_start[], kept_end[];
+static char memory[1 << 20];
+
+static bool is_tally(const volatile char *at) {
+    return at >= (char *)&kept.tally && at < (char *)(&kept.tally + 1);
+}
+
+UNSEEN void clean(const void *first, const void *end) {
+    for (const volatile char *at = kept_start; at < kept_end; at++)
+        if (at >= (char *)first && at < (char *)end)
+            memory[at - kept_start] = *at;
+}
+
+UNSEEN void look_at_memory(void) {
+    for (const volatile char *at = kept_start; at < kept_end; at++)
+        if (!is_tally(at) && memory[at - kept_start] != *at) {
+            is_wrong("what outlives a reset is in caches alone", at - kept_start);
+            return;
+        }
+}
+
+/* What is left undone ---------------------------------------------------------------------------- */
 
 static void stuck(const char *what, uint64_t value) {
     is_wrong(what, value);
@@ -180,6 +221,12 @@ UNSEEN static bool sleeps(unsigned cpu) {
     uint64_t since = GET(cpus[cpu].waits_since);
     return since && now() - since > MOST_WAIT / 4;
 }
+
+#ifdef SCP_MPIDR
+UNSEEN static bool control_sleeps(void) { return sleeps(SCP); }
+#else
+static bool control_sleeps(void) { return false; }
+#endif
 
 UNSEEN static bool has_left(const struct ring *ring) { return GET(ring->first) != GET(ring->end); }
 
@@ -216,7 +263,7 @@ UNSEEN void *watch(void *unused) {
         for (unsigned core = 0; core < CORES; core++)
             if (is_long(sleeps(core) && is_open(core), &at_door[core]))
                 stuck("a core sleeps at its open door", core);
-        if (is_long(sleeps(SCP) && has_left(&shared.messages), &messages))
+        if (is_long(control_sleeps() && has_left(&shared.messages), &messages))
             stuck("the control processor sleeps over a message", 0);
         if (is_long(has_left(&shared.acks), &acks))
             stuck("an acknowledgement is not taken", 0);

@@ -184,6 +184,74 @@ static void lives(void) {
     want("without wake-ups", PSCI_CTL_NOTHING, wake(0, 0));
 }
 
+/* Saving and loading --------------------------------------------------------------------------- */
+
+enum { WORDS = 14 };
+static uint64_t words[WORDS + 2]; /* the first and the last are never written */
+
+static uint32_t save(size_t count) {
+    words[0] = words[WORDS + 1] = ROUND;
+    uint32_t saved = psci_ctl_save(&place.it, words + 1, count);
+    want("what stands round the words", 1, words[0] == ROUND && words[WORDS + 1] == ROUND);
+    return saved;
+}
+
+/* Loads the words with this one in a place, and with their sum. */
+static uint32_t load_with(size_t at, uint64_t word) {
+    uint64_t changed[WORDS];
+    memcpy(changed, words + 1, sizeof changed);
+    changed[at] = word;
+    changed[1] = 0;
+    for (size_t i = 2; i < WORDS; i++)
+        changed[1] = changed[1] * 0x100000001b3 + changed[i];
+    return psci_ctl_load(&place.it, changed, WORDS);
+}
+
+/* Core 3 was started and is down with its cluster; the words are as FORMATS has them. */
+static void saving(void) {
+    static const uint64_t rows[] = {1, 4, 0, 0, 5, 0, 3, 3, 3, 0, 3, 0};
+    want("an empty place has no words", 0, psci_ctl_save_size(&place.it));
+    want("an empty place, save", PSCI_CTL_NO_PLACE, save(WORDS));
+    want("an empty place, load", PSCI_CTL_NO_PLACE, psci_ctl_load(&place.it, words, WORDS));
+    open_text(small);
+    message(2, 3, 1, 0, 0), deliver(PSCI_FRAME_LEN);
+    message(1, 3, 1, 1, 2), deliver(PSCI_FRAME_LEN);
+    want("so many words", WORDS, psci_ctl_save_size(&place.it));
+    want("a word too few", PSCI_SAVED_LENGTH, save(WORDS - 1));
+    want("none is written", 0, words[1]);
+    want("saved", 0, save(WORDS));
+    want("the format", 0x16c746370, words[1]);
+    want("the rows", 0, memcmp(words + 3, rows, sizeof rows));
+    want("core 3 is woken since", PSCI_CTL_START, wake(3, 1));
+}
+
+/* Words with a fault, each of whose bits is seen; nothing changes. */
+static void not_loaded(void) {
+    want("a word too many", PSCI_SAVED_LENGTH, psci_ctl_load(&place.it, words + 1, WORDS + 1));
+    for (size_t at = 0; at < WORDS; at++)
+        for (int bit = 0; bit < 64; bit++) {
+            words[at + 1] ^= (uint64_t)1 << bit;
+            want("a bit", at ? PSCI_SAVED_SUM : PSCI_SAVED_FORMAT, psci_ctl_load(&place.it, words + 1, WORDS));
+            words[at + 1] ^= (uint64_t)1 << bit;
+        }
+    want("a life too late", PSCI_SAVED_LIFE, load_with(2, 3));
+    want("starts without a life", PSCI_SAVED_STARTS, load_with(2, 0));
+    want("a start too many", PSCI_SAVED_STARTS, load_with(6, 3 * 4));
+    want("no boot", PSCI_SAVED_STARTS, load_with(3, 3));
+    want("too deep", PSCI_SAVED_DEPTH, load_with(13, 4));
+    want("still core 3's second start", 1 << 16 | 2 << 8 | PSCI_CAUSE_WAKE, found(3));
+}
+
+static void loading(void) {
+    want("loaded", 0, psci_ctl_load(&place.it, words + 1, WORDS));
+    want("core 3's first start", 1 << 16 | 1 << 8 | PSCI_CAUSE_ON, found(3));
+    want("its cluster is down", PSCI_CTL_POWER_DOWN, psci_ctl_depth(&place.it, 1, 1));
+    want("it is woken again", PSCI_CTL_START, wake(3, 1));
+    message(1, 3, 1, 2, 2);
+    want("its cluster counts two starts", PSCI_CTL_SWITCH, deliver(PSCI_FRAME_LEN));
+    psci_ctl_close(&place.it);
+}
+
 int main(void) {
     size_t size = pool_size(256);
     void *memory = malloc(size);
@@ -196,5 +264,8 @@ int main(void) {
     faults();
     lives();
     psci_ctl_close(&place.it);
+    saving();
+    not_loaded();
+    loading();
     return failed;
 }

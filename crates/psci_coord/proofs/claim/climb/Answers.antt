@@ -15,8 +15,16 @@ loop-level-init c =
     c.args.core.number
     (wanted c.args.board.now (view_of c.args.tree.now) c.args.core.number c.args.wish.now))
 
-pub standings-standings-requires : goal.standings-standings-requires
-standings-standings-requires c = rw c.requires.board c.requires.core
+pub standing-standing-requires-clause-core : goal.standing-standing-requires-clause-core
+standing-standing-requires-clause-core c = rw c.requires.board c.requires.core
+
+pub standing-standing-requires-clause-level : goal.standing-standing-requires-clause-level
+standing-standing-requires-clause-level c = omega (
+  arith,
+  c.loop-level-test.true,
+  c.height-level-end.ensures.height,
+  ap length c.requires.board,
+)
 
 pub loop-level-preserved : goal.loop-level-preserved
 loop-level-preserved c =
@@ -33,10 +41,10 @@ loop-level-preserved c =
     ) in
     let node = node-is b t core level c.requires.board in
     let depth = c.depth-depth.ensures t (on_path t.levels core level) refl
-    (c.standings-standings.ensures.lows level high)
+    c.standing-standing.ensures.low
     ∙ wanted-is b t core level (on_path t.levels core level) c.args.wish.now c.requires.board
     node in
-    let known = c.standings-standings.ensures.known level high
+    let known = c.standing-standing.ensures.known
     ∙ known-is b t core level (on_path t.levels core level) c.requires.board node in
     rw c.push.ensures (climbed-more b (view_of t) core wished level c.loop-level.parts _
     c.loop-level.invariant
@@ -57,7 +65,7 @@ returns-then-depth-eq0 c =
       ap length c.requires.board,
     ) in
     let depth = c.depth-depth.ensures t (on_path t.levels core level) refl
-    (c.standings-standings.ensures.lows level high)
+    c.standing-standing.ensures.low
     ∙ wanted-is b t core level (on_path t.levels core level) c.args.wish.now c.requires.board
     (node-is b t core level c.requires.board) in
     climbed-ends b (view_of t) core wished level c.loop-level.parts c.loop-level.invariant

@@ -1,15 +1,17 @@
 -- What a core does by itself keeps the rules of the port.
-use Rattle.psci_enter.proofs.Standing.{armed_there, arms, free, rests, rests_armed, rises, rouses}
-use Rattle.psci_enter.proofs.Standing.{sleeps, stands, takes_up, turns, waits_there}
+use Rattle.psci_enter.proofs.Standing.{arms, by_look, free, hears, rests, rests_armed, rises}
+use Rattle.psci_enter.proofs.Standing.{rouses, sleeps, stands, takes_up, turns, woken_at}
 use Rattle.psci_enter.proofs.Steps.{rightly}
-use Rattle.psci_port.specs.Port.{state}
+use Rattle.psci_port.specs.Port.{state, words}
+use Rattle.psci_enter.specs.SideOf.{core_of}
 use Rattle.psci_port.proofs.Running.{run_kept}
 use Rattle.psci_enter.proofs.laws.law_stands.Goals as goal
 
 pub returns-clause-takes_up : goal.returns-clause-takes_up
-returns-clause-takes_up c = λ b acts s door pending run is reads free may finds.
-    let so = takes_up b (state b acts) s is (run_kept b acts run) door pending reads free may
-    finds in
+returns-clause-takes_up c = λ b acts s door pending run is reads still may armed finds.
+    let kept = run_kept b acts run in
+    let lacks = by_look s.post may (free b (state b acts) s is kept) armed in
+    let so = takes_up b (state b acts) s is kept door pending reads still may lacks finds in
     (rightly b acts _ _ so.0.0 tt so.0.1, so.1.0, so.1.1.0, so.1.1.1)
 
 pub returns-clause-rests : goal.returns-clause-rests
@@ -34,16 +36,20 @@ returns-clause-arms c = λ b acts s is post none.
 
 pub returns-clause-sleeps : goal.returns-clause-sleeps
 returns-clause-sleeps c = λ b acts s is post. (
-  λ there. waits_there b (state b acts) s is there,
+  λ there lacks.
+      let so = turns b (state b acts) s is there lacks in rightly b acts _ _ so.0 tt so.1,
   λ there lacks.
       let so = sleeps b (state b acts) s is there lacks in rightly b acts _ _ so.0 tt so.1,
 )
 
 pub returns-clause-rouses : goal.returns-clause-rouses
-returns-clause-rouses c = λ b acts s is post. (
-  λ there. armed_there b (state b acts) s is there,
-  λ there. let so = rouses b (state b acts) s is there in rightly b acts _ _ so.0 tt so.1,
-)
+returns-clause-rouses c = λ b acts s is post.
+    let so = rouses b (state b acts) s is post in rightly b acts _ _ so.0 tt so.1
+
+pub returns-clause-hears : goal.returns-clause-hears
+returns-clause-hears c = λ b acts s run is post there.
+    hears b (state b acts) s is (run_kept b acts run)
+    (words (state b acts) (core_of s)) there
 
 pub returns-clause-rises : goal.returns-clause-rises
 returns-clause-rises c = λ b acts s is post there has.
@@ -51,4 +57,5 @@ returns-clause-rises c = λ b acts s is post there has.
 
 pub returns-clause-turns : goal.returns-clause-turns
 returns-clause-turns c = λ b acts s is post lacks.
-    let so = turns b (state b acts) s is post lacks in rightly b acts _ _ so.0 tt so.1
+    let so = turns b (state b acts) s is (woken_at b (state b acts) s is post) lacks in
+    rightly b acts _ _ so.0 tt so.1

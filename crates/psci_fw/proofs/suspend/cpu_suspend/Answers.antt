@@ -7,7 +7,7 @@ use Rattle.psci_fw.proofs.Answered.{suspended_answered}
 use Rattle.psci_fw.proofs.suspend.cpu_suspend.Goals as goal
 
 pub sleep-requires-clause-may : goal.sleep-requires-clause-may
-sleep-requires-clause-may c =
+sleep-requires-clause-may g c =
     let b = c.args.state.now.board in
     let named : ask_named b c.args.word ≡ Ok c.in-Ok.ask = search rules in
     let enters = rw c.board-board.ensures.same at c.has_invalid_entry.ensures in
@@ -22,7 +22,7 @@ sleep-requires-clause-may c =
     }
 
 pub returns-clause-answer : goal.returns-clause-answer
-returns-clause-answer c =
+returns-clause-answer g c =
     let b = c.args.state.now.board in
     let named : ask_named b c.args.word ≡ Ok c.in-Ok.ask = search rules in
     let enters = rw c.board-board.ensures.same at c.has_invalid_entry.ensures in

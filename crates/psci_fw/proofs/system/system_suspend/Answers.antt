@@ -5,7 +5,7 @@ use Rattle.psci_state.specs.Ask.{deepest_of}
 use Rattle.psci_fw.proofs.system.system_suspend.Goals as goal
 
 pub sleep-requires-clause-may : goal.sleep-requires-clause-may
-sleep-requires-clause-may c =
+sleep-requires-clause-may g c =
     let asked : c.deepest-ask.result ≡ deepest_of (height c.args.state.now.board) =
     rw (c.height.ensures.height, c.board-board.ensures.same) at c.deepest-ask.ensures.value in
     let enters = rw c.board-board.ensures.same at c.may_enter.ensures in

@@ -1,8 +1,9 @@
 -- Level by level, each part is granted to the domain on the core's path.
-use Rattle.psci_fw_state.proofs.Words.{◌∙◌, ◌≡◌, ◌≤◌, ap, arith, get_or, granted_at, HasNodeIn}
-use Rattle.psci_fw_state.proofs.Words.{height, is_confirmed_at, length, Node, Part, slice_get}
+use Rattle.psci_fw_state.proofs.Words.{◌∙◌, ◌≡◌, ◌≤◌, arith, get_or, granted_at, HasNodeIn}
+use Rattle.psci_fw_state.proofs.Words.{height, is_confirmed_at, Node, Part, slice_get}
 use Rattle.psci_fw_state.proofs.Words.{slice_get-get_or, Some, up}
-use Rattle.psci_fw_state.proofs.Granting.{laid_all, laid_more, may_grant, node_at, on_path}
+use Rattle.psci_tree.specs.Standing.{on_path as path_node}
+use Rattle.psci_fw_state.proofs.Granting.{laid_all, laid_more, may_grant, on_path}
 use Rattle.psci_fw_state.proofs.Granting.{on_board, unconfirmed_all, unconfirmed_more}
 use Rattle.psci_fw_state.proofs.claim.grant_parts.Goals.{In-loop-level}
 use Rattle.psci_fw_state.proofs.claim.grant_parts.Goals as goal
@@ -17,11 +18,10 @@ on c = record {
   place = up c.args.board.now c.loop-level.level c.args.core.number;
 }
 
-node : (c : In-loop-level)
-    → node_at c.loop-level.level (get_or c.places-places.result c.loop-level.level 0) ≡ on c
-node c = on_board c.args.board.now c.args.tree.now.levels c.args.core.number c.loop-level.level _
-    (ap (node_at c.loop-level.level) (c.places-places.ensures c.loop-level.level
-    (omega (arith, low c, ap length c.requires.tree.levels)))) c.requires.tree.levels
+node : (c : In-loop-level) (n : Node)
+    → n ≡ path_node c.loop-level.tree.levels c.args.core.number c.loop-level.level → n ≡ on c
+node c n is = on_board c.args.board.now c.loop-level.tree.levels c.args.core.number
+    c.loop-level.level n is (c.loop-level.invariant.levels ∙ c.requires.tree.levels)
 
 has : (c : In-loop-level) → HasNodeIn c.loop-level.tree.levels (on c)
 has c = on_path c.args.board.now c.loop-level.tree.levels c.args.core.number c.loop-level.level
@@ -37,13 +37,15 @@ part c = slice_get-get_or c.args.parts.now c.loop-level.level none c.loop-level-
 
 pub grant-requires-clause-domain : goal.grant-requires-clause-domain
 grant-requires-clause-domain c =
-    let at = (goal.at.grant-requires-clause-domain c).In-loop-level in rw (node at) (has at)
+    let at = (goal.at.grant-requires-clause-domain c).In-loop-level in
+    rw (node at c.on_path-node.result c.on_path-node.ensures) (has at)
 
 pub grant-requires-clause-depth : goal.grant-requires-clause-depth
 grant-requires-clause-depth c =
     let at = (goal.at.grant-requires-clause-depth c).In-loop-level in
     let b = c.args.board.now in
-    rw (node at) (may_grant b c.args.core.number c.args.parts.now (granted_at c.args.tree.now)
+    rw (node at c.on_path-node.result c.on_path-node.ensures)
+    (may_grant b c.args.core.number c.args.parts.now (granted_at c.args.tree.now)
     c.loop-level.tree c.loop-level.level _ (part at)
     (c.law_paths.ensures b c.requires.tree.board) c.requires.parts.may
     (c.law_parts.ensures.parts c.args.parts.now c.requires.parts.claims)
@@ -56,7 +58,7 @@ loop-level-preserved c =
     record {
       laid = laid_more b c.args.core.number c.args.parts.now (granted_at c.args.tree.now)
           c.loop-level.tree c.grant.new.self c.loop-level.level _ (part at)
-          (λ l p. rw (c.grant.ensures.value, node at)
+          (λ l p. rw (c.grant.ensures.value, node at c.on_path-node.result c.on_path-node.ensures)
           (c.law_granted.ensures.grant c.loop-level.tree _ _ l p c.loop-level.invariant.tree
           (has at))) c.loop-level.invariant.laid;
       unconfirmed = unconfirmed_more b c.args.core.number c.args.parts.now
@@ -64,7 +66,7 @@ loop-level-preserved c =
           (part at) (c.loop-level.invariant.laid.high _ _ (omega arith)
           ∙ c.requires.parts.may.free c.loop-level.level (low at))
           ((c.law_parts.ensures.parts c.args.parts.now c.requires.parts.claims).least _ _ (part at))
-          (λ l p. rw (c.grant.ensures.value, node at)
+          (λ l p. rw (c.grant.ensures.value, node at c.on_path-node.result c.on_path-node.ensures)
           (c.law_confirmed.ensures.grant c.loop-level.tree _ _ l p c.loop-level.invariant.tree
           (has at))) c.loop-level.invariant.unconfirmed;
       cores = λ k. rw c.grant.ensures.value

@@ -5,56 +5,40 @@ use Rattle.psci_fw_state.proofs.Words.{is_made_at, length, nat_lt, Node, Part, s
 use Rattle.psci_fw_state.proofs.Words.{Some, subst, sym, true, up, ℕ}
 use Rattle.psci_tree.specs.Standing.{on_path as path_node}
 use Rattle.psci_tree.specs.Recount.{known}
-use Rattle.psci_fw_state.proofs.Confirming.{confirmed_all, confirmed_more, known_stays}
-use Rattle.psci_fw_state.proofs.Granting.{node_at, on_board, on_path}
+use Rattle.psci_fw_state.proofs.Confirming.{confirmed_all, confirmed_more}
+use Rattle.psci_fw_state.proofs.Granting.{on_board, on_path}
 use Rattle.psci_fw_state.proofs.confirm.confirm_parts.Goals.{In-loop-level}
 use Rattle.psci_fw_state.proofs.confirm.confirm_parts.Goals as goal
-
--- the domain on the core's path of the level that the loop is at
-abbrev here : In-loop-level → Node
-here c = node_at c.loop-level.level (get_or c.places-places.result c.loop-level.level 0)
 
 low : (c : In-loop-level) → c.loop-level.level ≤ height c.args.board.now
 low c = omega (arith, c.loop-level-test.true, c.min-most.ensures, c.height.ensures.height)
 
-placed : (c : In-loop-level)
-    → here c ≡ path_node c.loop-level.tree.levels c.args.core.number c.loop-level.level
-placed c =
-    ap (node_at c.loop-level.level) (c.places-places.ensures c.loop-level.level
-    (omega (arith, low c, ap length c.requires.tree.levels)))
-    ∙ ap (λ ls. path_node ls c.args.core.number c.loop-level.level)
-    (sym c.loop-level.invariant.levels)
+levels : (c : In-loop-level) → c.loop-level.tree.levels ≡ c.args.board.now.levels
+levels c = c.loop-level.invariant.levels ∙ c.requires.tree.levels
 
-node : (c : In-loop-level) → here c ≡ record {
-  level = c.loop-level.level;
-  place = up c.args.board.now c.loop-level.level c.args.core.number;
-}
-node c = on_board c.args.board.now c.loop-level.tree.levels c.args.core.number c.loop-level.level _
-    (placed c) (c.loop-level.invariant.levels ∙ c.requires.tree.levels)
-
-known_is : (c : In-loop-level)
-    → get_or c.known_on-known.result c.loop-level.level 0 ≡ known c.loop-level.tree (here c)
-known_is c =
-    c.known_on-known.ensures c.loop-level.level
-    (omega (arith, low c, ap length c.requires.tree.levels))
-    ∙ ap (λ ls. known c.args.tree.now (path_node ls c.args.core.number c.loop-level.level))
-    (sym c.loop-level.invariant.levels)
-    ∙ known_stays c.args.board.now c.args.core.number c.args.parts.now c.args.tree.now
-    c.loop-level.tree c.loop-level.level _ c.loop-level.invariant c.requires.tree.levels
-    ∙ ap (known c.loop-level.tree) (sym (placed c))
+-- the domain on the core's path of the level that the loop is at
+node : (c : In-loop-level) (n : Node)
+    → n ≡ path_node c.loop-level.tree.levels c.args.core.number c.loop-level.level
+    → n ≡ record {
+      level = c.loop-level.level;
+      place = up c.args.board.now c.loop-level.level c.args.core.number;
+    }
+node c n is = on_board c.args.board.now c.loop-level.tree.levels c.args.core.number
+    c.loop-level.level n is (levels c)
 
 pub confirm_last-requires-clause-domain : goal.confirm_last-requires-clause-domain
 confirm_last-requires-clause-domain c =
     let at = (goal.at.confirm_last-requires-clause-domain c).In-loop-level in
     let b = c.args.board.now in
-    subst (HasNodeIn c.loop-level.tree.levels) (sym (node at)) (on_path b c.loop-level.tree.levels
+    subst (HasNodeIn c.loop-level.tree.levels)
+    (sym (node at c.on_path-node.result c.on_path-node.ensures)) (on_path b c.loop-level.tree.levels
     c.args.core.number c.loop-level.level (c.law_paths.ensures b c.requires.tree.board)
     (c.loop-level.invariant.levels ∙ c.requires.tree.levels)
     (omega (arith, c.if-core-cores.false, c.cores.ensures.cores)) (low at))
 
 pub confirm_last-requires-clause-known : goal.confirm_last-requires-clause-known
 confirm_last-requires-clause-known c =
-    known_is (goal.at.confirm_last-requires-clause-known c).In-loop-level
+    c.standing-known.ensures.known ∙ ap (known c.loop-level.tree) (sym c.on_path-node.ensures)
 
 pub loop-level-preserved : goal.loop-level-preserved
 loop-level-preserved c =
@@ -71,10 +55,11 @@ loop-level-preserved c =
     ((n.level == l) && (n.place == p)) && (nat_lt 0 (granted_at c.loop-level.tree n.level n.place)
     && is_made_at k (Some part)) in
     c.confirm_last.ensures.confirmed l p
-    ∙ ap (λ k. cond (made k (here at)) true (is_confirmed_at c.loop-level.tree l p))
-    (known_is at)
+    ∙ ap (λ k. cond (made k c.on_path-node.result) true (is_confirmed_at c.loop-level.tree l p))
+    (c.standing-known.ensures.known ∙ ap (known c.loop-level.tree) (sym c.on_path-node.ensures))
     ∙ ap (λ (n : Node). cond (made (known c.loop-level.tree n) n) true
-    (is_confirmed_at c.loop-level.tree l p)) (node at))
+    (is_confirmed_at c.loop-level.tree l p))
+    (node at c.on_path-node.result c.on_path-node.ensures))
     c.confirm_last.ensures.kept.granted c.confirm_last.ensures.kept.cores
     c.confirm_last.ensures.kept.levels c.confirm_last.ensures.kept.tree
 

@@ -2,15 +2,14 @@
 use Rattle.std.proofs.Common.{◌≡◌, ◌+◌, ◌<◌, ◌∙◌, sym, ap, refl, arith, Some}
 use Rattle.psci_board.specs.declared.node.Node.{Node}
 use Rattle.psci_board.specs.Board.{child, children}
-use Rattle.psci_tree.specs.declared.domain.Domain.{Domain, out-Domain}
-use Rattle.psci_tree.specs.Below.{IsBelow}
-use Rattle.psci_tree.specs.Recount.{active}
 use Rattle.psci_messages.specs.Looked.{view_of}
 use Rattle.psci_messages.specs.LastCore.{refusal}
 use Rattle.psci_osi.specs.Worse.{worse}
 use Rattle.psci_osi.proofs.Gathered.{child-refusal-more}
-use Rattle.psci_osi.proofs.Refusals.{child_refuses}
-use Rattle.psci_osi.proofs.Siblings.{is_below, none_first, nth_child, sibling}
+use Rattle.psci_osi.proofs.Refusals.{child_refuses, worse-none}
+use Rattle.psci_osi.proofs.Siblings.{has_child, none_first, nth_child}
+use Rattle.psci_osi.proofs.last_core.level_refusal.Goals.{in-Some-child_refusal}
+use Rattle.psci_osi.proofs.last_core.level_refusal.Goals.{in_default-child_refusal}
 use Rattle.psci_osi.proofs.last_core.level_refusal.Goals as goal
 
 pub returns-in_default : goal.returns-in_default
@@ -18,22 +17,13 @@ unfolding refusal
 returns-in_default c =
     rw (none_first c.args.board.now c.args.above (sym c.child.ensures ∙ c.in_default.is)) refl
 
-pub bounds-below-number : goal.bounds-below-number
-bounds-below-number c =
-    let b = c.args.board.now in
-    (c.below-below.ensures b _ c.loop-number.number
-    (sibling b c.args.tree.now.levels c.args.above c.in-Some.first c.loop-number.number
-    c.requires.board (c.law_children.ensures b c.requires.valid)
-    (c.law_parents.ensures b c.requires.valid) (sym c.child.ensures ∙ c.in-Some.is)
-    (omega (arith, c.loop-number-test.true, c.children-number-end.ensures)))).inside
-
 pub child_refusal-requires : goal.child_refusal-requires
 child_refusal-requires c =
     let b = c.args.board.now in
-    (sibling b c.args.tree.now.levels c.args.above c.in-Some.first c.loop-number.number
+    has_child b c.args.tree.now.levels c.args.above c.in-Some.first c.loop-number.number
     c.requires.board (c.law_children.ensures b c.requires.valid)
-    (c.law_parents.ensures b c.requires.valid) (sym c.child.ensures ∙ c.in-Some.is)
-    (omega (arith, c.loop-number-test.true, c.children-number-end.ensures))).node
+    (sym c.child.ensures ∙ c.in-Some.is)
+    (omega (arith, c.loop-number-test.true, c.children-number-end.ensures))
 
 pub loop-number-init : goal.loop-number-init
 unfolding refusal
@@ -50,18 +40,18 @@ loop-number-preserved c =
     omega (arith, c.loop-number-test.true, c.children-number-end.ensures) in
     let is : child b n k ≡ Some m =
     nth_child b n c.in-Some.first k (sym c.child.ensures ∙ c.in-Some.is) inside in
-    let at : IsBelow t.levels b n m k =
-    is_below b t.levels n m k c.requires.board (c.law_children.ensures b c.requires.valid)
-    (c.law_parents.ensures b c.requires.valid) is in
-    let many : c.active-active.result ≡ active t m =
-    c.active-active.ensures
-    ∙ ap (λ (d : Domain). (out-Domain d).kept.active) c.index-below-number.is
-    ∙ (c.below-below.ensures b m k at).active c.index-below-number.result in
-    c.worse-fault.ensures
-    ∙ ap (worse c.loop-number.fault) (child_refuses b t m c.args.own c.args.depth
-    c.child_refusal.result c.requires.board c.child_refusal.ensures.own
-    c.child_refusal.ensures.deep
-    (λ h low none. c.child_refusal.ensures.idle h low (many ∙ none))
-    (λ h low some. c.child_refusal.ensures.busy h low (λ none. some (sym many ∙ none))))
-    ∙ child-refusal-more b (view_of t) c.args.depth c.args.own n m k c.loop-number.fault inside is
-    c.loop-number.invariant
+    let fault = c.loop-number.fault in
+    let next =
+    ap (worse fault) (child_refuses b t m c.args.own c.args.depth c.child_refusal.result
+    c.requires.board c.child_refusal.ensures.own c.child_refusal.ensures.deep
+    c.child_refusal.ensures.idle c.child_refusal.ensures.busy)
+    ∙ child-refusal-more b (view_of t) c.args.depth c.args.own n m k fault inside is
+    c.loop-number.invariant in
+    elim c.match-child_refusal.branch [
+      | in-Some-child_refusal w ↦
+          w.fault-is ∙ w.worse-fault.ensures
+          ∙ ap (worse fault) (sym w.in-Some-child_refusal.is) ∙ next
+      | in_default-child_refusal w ↦
+          w.fault-is ∙ sym (worse-none fault)
+          ∙ ap (worse fault) (sym w.in_default-child_refusal.is) ∙ next
+    ]

@@ -1,5 +1,5 @@
 -- The way so far leads from the core up to the place of this level.
-use Rattle.psci_tree.proofs.Words.{◌<◌, ◌≡◌, [], get_or, index_in, length, place_above, ℕ}
+use Rattle.psci_tree.proofs.Words.{◌<◌, ◌≡◌, get_or, length, place_above, ℕ}
 use Rattle.psci_tree.proofs.way.way_to.Given as goal
 
 abbrev pub invariant-loop-level : goal.invariant-loop-level
@@ -7,10 +7,7 @@ invariant-loop-level l =
     let levels = l.board.levels in
     let core = l.fn.core.number in
     record {
-      long : length l.numbers ≡ 3;
       wide : length l.places ≡ 4;
       place : l.place ≡ place_above levels l.level core;
-      done : (k : ℕ) → k < l.level
-          → get_or l.numbers k 0 ≡ index_in (get_or levels k []) (place_above levels k core);
       path : (k : ℕ) → k < l.level → get_or l.places k 0 ≡ place_above levels k core;
     }

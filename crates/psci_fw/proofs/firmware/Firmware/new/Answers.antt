@@ -11,4 +11,5 @@ invariant_of-result c =
       board = rw same valid;
       values = rw (values, same) (c.law_invariant.ensures.first c.args.board.now 0 valid);
       fresh = rw (values, same) (c.law_fresh.ensures.first c.args.board.now);
+      lives = rw (values, same) (c.law_lives.ensures.first c.args.board.now);
     }

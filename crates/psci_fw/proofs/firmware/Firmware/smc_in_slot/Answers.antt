@@ -1,11 +1,12 @@
 -- A call in the slot is answered, and leaves a firmware.
-use Rattle.std.proofs.Common.{◌≡◌, ◌∙◌, None, refl, rules, subst, sym}
+use Rattle.std.proofs.Common.{◌≡◌, ◌≤◌, ◌∙◌, None, refl, rules, subst, sym}
 use Rattle.psci_abi.specs.Calls.{request_of}
 use Rattle.psci_board.specs.Board.{BoardValue, IsBoard}
 use Rattle.psci_fw_spec.specs.declared.call.FwCall.TheVariants.{Smc}
 use Rattle.psci_fw_spec.specs.Answer.{answer}
 use Rattle.psci_fw_spec.specs.Calls.{call_fault}
 use Rattle.psci_fw_spec.specs.Invariant.{AreValues}
+use Rattle.psci_fw_spec.specs.Values.{Values}
 use Rattle.psci_fw_state.specs.Seen.{StateValue, values_in}
 use Rattle.psci_fw.specs.Reactions.{outcome_in}
 use Rattle.psci_fw.specs.Seen.{IsFirmware, IsFresh}
@@ -41,4 +42,7 @@ invariant_of-self g c =
           (c.law_invariant.ensures.answer b v core (Smc c.args.regs) before.board before.values));
       fresh = subst (λ (x : BoardValue). IsFresh x w) at (subst (IsFresh b) (sym left)
           (c.law_fresh.ensures.call b v core c.args.regs o fault));
+      lives = subst (λ (x : BoardValue). w.life ≤ x.lives) at
+          (subst (λ (x : Values). x.life ≤ b.lives) (sym left)
+          (c.law_lives.ensures.call b v core c.args.regs o before.lives));
     }

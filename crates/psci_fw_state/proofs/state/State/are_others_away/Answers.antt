@@ -1,5 +1,5 @@
 -- Every other core is away where as many are, but for the core itself.
-use Rattle.psci_fw_state.proofs.Words.{◌∙◌, ◌≡◌, ◌≤◌, ap, arith, Bool, cond, false, is_away, not}
+use Rattle.psci_fw_state.proofs.Words.{◌∙◌, ◌≡◌, ◌≤◌, ap, arith, Bool, cond, false, not}
 use Rattle.psci_fw_state.proofs.Words.{refl, StateValue, the_view, true, ℕ}
 use Rattle.psci_fw_state.specs.Seen.{values_in}
 use Rattle.psci_fw_state.proofs.AllCores.{away, few_off, others_away}

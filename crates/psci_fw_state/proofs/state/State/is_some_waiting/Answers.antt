@@ -1,6 +1,5 @@
 -- A core waits where one is pending, or one is neither off nor active.
-use Rattle.psci_fw_state.proofs.Words.{◌∙◌, arith, off, StateValue, the_view, true}
-use Rattle.psci_tree.specs.Recount.{active}
+use Rattle.psci_fw_state.proofs.Words.{◌∙◌, arith, StateValue, the_view}
 use Rattle.psci_fw_state.specs.Seen.{values_in}
 use Rattle.psci_fw_state.proofs.AllCores.{fits_settled, none_pending, some_pending}
 use Rattle.psci_fw_state.proofs.state.State.is_some_waiting.Goals as goal

@@ -9,13 +9,13 @@ use Rattle.psci_fw_spec.specs.declared.reply.FwReply.TheVariants as replies
 use Rattle.psci_status.proofs.polled.PolledFirmware.enter_in_slot.Goals as goal
 
 pub returns-in_err-reaction-clause-next : goal.returns-in_err-reaction-clause-next
-returns-in_err-reaction-clause-next c =
+returns-in_err-reaction-clause-next g c =
     let e = c.in_err-reaction.ensures in
     next_still c.enter_in_slot.new.self c.args.core.number (calls.Enter c.args.start)
     c.self.invariant c.self.view_is e.answer e.after e.refused
 
 pub write_changed-requires-clause-others : goal.write_changed-requires-clause-others
-write_changed-requires-clause-others c =
+write_changed-requires-clause-others g c =
     let f = c.enter_in_slot.new.self in
     let o = outcome_in f.board (seen f) c.in_ok-reaction.reaction in
     others_stay f c.args.core.number (calls.Enter c.args.start) (replies.Out o) (Some c.args.core)
@@ -24,14 +24,14 @@ write_changed-requires-clause-others c =
     c.args.core.number core c.args.start o other)
 
 pub invariant_of-self-2 : goal.invariant_of-self-2
-invariant_of-self-2 c =
+invariant_of-self-2 g c =
     let left = c.in_ok-reaction.ensures in
     polled_next c.enter_in_slot.new.self c.args.core.number (calls.Enter c.args.start)
     c.law_values.ensures.more c.self.invariant left.answer left.after left.board
     c.write_changed.ensures.table c.life_of-before.ensures c.write_changed.ensures.log
 
 pub returns-clause-next : goal.returns-clause-next
-returns-clause-next c =
+returns-clause-next g c =
     let left = c.in_ok-reaction.ensures in
     next_left c.enter_in_slot.new.self c.args.core.number (calls.Enter c.args.start)
     c.self.invariant c.self.view_is left.answer left.after left.board

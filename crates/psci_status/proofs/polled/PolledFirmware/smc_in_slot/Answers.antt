@@ -4,20 +4,20 @@ use Rattle.psci_fw_spec.specs.declared.call.FwCall.TheVariants as calls
 use Rattle.psci_status.proofs.polled.PolledFirmware.smc_in_slot.Goals as goal
 
 pub returns-in_err-reaction-clause-next : goal.returns-in_err-reaction-clause-next
-returns-in_err-reaction-clause-next c =
+returns-in_err-reaction-clause-next g c =
     let e = c.in_err-reaction.ensures in
     next_still c.smc_in_slot.new.self c.args.core.number (calls.Smc c.args.regs) c.self.invariant
     c.self.view_is e.answer e.after e.refused
 
 pub write_one-requires-clause-others : goal.write_one-requires-clause-others
-write_one-requires-clause-others c =
+write_one-requires-clause-others g c =
     let left = c.in_ok-reaction.ensures in
     smc_stays c.smc_in_slot.new.self c.args.core.number c.args.regs
     c.law_caller.ensures.life c.self.invariant
     left.answer left.after c.law_values.ensures.more left.slot c.asked_in-asked.ensures
 
 pub invariant_of-self-2 : goal.invariant_of-self-2
-invariant_of-self-2 c =
+invariant_of-self-2 g c =
     let left = c.in_ok-reaction.ensures in
     smc_polled c.smc_in_slot.new.self c.args.core.number c.args.regs
     c.law_caller.ensures.life c.self.invariant
@@ -25,7 +25,7 @@ invariant_of-self-2 c =
     c.write_one.ensures.log
 
 pub returns-clause-next : goal.returns-clause-next
-returns-clause-next c =
+returns-clause-next g c =
     let left = c.in_ok-reaction.ensures in
     smc_next c.smc_in_slot.new.self c.args.core.number c.args.regs
     c.law_caller.ensures.life c.self.invariant

@@ -2,9 +2,19 @@
 use Rattle.psci_tree.proofs.Words.{◌==◌, ◌∙◌, ap, arith, cond, Depths, granted_at, Node, refl}
 use Rattle.psci_tree.proofs.Words.{TreeValue, ℕ}
 use Rattle.psci_tree.specs.Changes.{with_grant}
-use Rattle.psci_tree.proofs.Seen.{depths_seen, depths_with, held_seen, held_with}
+use Rattle.psci_tree.proofs.Seen.{depths_seen, depths_with, held_seen, held_with, place_seen}
 use Rattle.psci_tree.proofs.Valid.{grant_valid}
 use Rattle.psci_tree.proofs.tree.Tree.grant.Goals as goal
+
+pub depths_at-requires-clause-level : goal.depths_at-requires-clause-level
+depths_at-requires-clause-level c =
+    (place_seen c.self.inside _ c.args.node c.self.invariant c.self.view_is c.requires.domain
+    c.deref.ensures.value).level
+
+pub write-requires-clause-level : goal.write-requires-clause-level
+write-requires-clause-level c =
+    (place_seen c.self.inside _ c.args.node c.self.invariant c.self.view_is c.requires.domain
+    c.deref_mut.ensures.value).level
 
 pub returns-clause-value : goal.returns-clause-value
 unfolding with_grant

@@ -1,17 +1,17 @@
 -- The least ask is kept in the domain; above the board nothing is asked.
 use Rattle.std.proofs.lemmas.List.FromFn.{length-range_with_len}
-use Rattle.psci_tree.proofs.Words.{◌<◌, ◌∙◌, ap, arith, below_in, IsTied, length, span, SpanLaws}
-use Rattle.psci_tree.proofs.Words.{subst, TreeValue}
+use Rattle.psci_tree.proofs.Words.{◌<◌, ◌∙◌, ap, arith, below_in, length, refl, span, SpanLaws}
+use Rattle.psci_tree.proofs.Words.{TreeValue}
 use Rattle.psci_tree.proofs.Keeping.{keeps_low}
 use Rattle.psci_tree.proofs.PathStands.{low_is, low_above}
+use Rattle.psci_tree.proofs.Seen.{held_seen}
 use Rattle.psci_tree.proofs.tree.Tree.low.Goals as goal
 
 pub returns-then-level-height : goal.returns-then-level-height
 returns-then-level-height c =
     let t : TreeValue = c.args.self.now in
-    let tied : IsTied c.self.inside.root t =
-    subst (IsTied c.self.inside.root) c.self.view_is c.self.invariant.tied in
-    let laws : SpanLaws t.levels = c.law_spans.ensures t.levels tied.valid.tree in
+    let held = held_seen c.self.inside t c.self.invariant c.self.view_is in
+    let laws : SpanLaws t.levels = c.law_spans.ensures t.levels held.tied.valid.tree in
     let some : 0 < length (below_in t.levels c.args.node) = omega (
       arith,
       ap length (laws.cores c.args.node c.requires),
@@ -27,13 +27,13 @@ returns-then-level-height c =
 
 pub returns : goal.returns
 returns c =
-    keeps_low _ _ c.args.level c.domain.ensures.kept (omega (
+    keeps_low _ _ c.args.level c.kept.ensures (omega (
       arith,
       c.if-level-height.false,
       c.height.ensures.height,
       c.height.ensures.board.high,
     ))
-    ∙ low_is c.args.self.now c.args.node c.args.level _ c.domain.ensures.cores (omega (
+    ∙ low_is c.args.self.now c.args.node c.args.level _ refl (omega (
       arith,
       c.if-level-height.false,
       c.height.ensures.height,

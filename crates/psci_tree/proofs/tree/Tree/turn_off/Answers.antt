@@ -1,11 +1,13 @@
 -- Every core is off, and every domain is granted power-down, which is confirmed.
-use Rattle.psci_tree.proofs.Words.{◌∙◌, ◌≡◌, ap, arith, CoreState, Depths, Domain, IsHeld, length}
-use Rattle.psci_tree.proofs.Words.{level_sizes, List, map, never_started, replicate, subst, sym}
-use Rattle.psci_tree.proofs.Words.{Way, with_items_is, ℕ}
+use Rattle.psci_tree.proofs.Words.{◌∙◌, ◌≡◌, ap, AreKept, arith, Depths, IsHeld, Kept, length}
+use Rattle.psci_tree.proofs.Words.{level_sizes}
+use Rattle.psci_tree.proofs.Words.{List, map, never_started, replicate, size_below, subst, sym}
+use Rattle.psci_tree.proofs.Words.{TreeValue}
+use Rattle.psci_tree.proofs.Words.{with_items, with_items_is, ℕ}
 use Rattle.psci_tree.proofs.DepthRows.{depth_lengths, filled_depths}
+use Rattle.psci_tree.proofs.Gone.{turned_off}
 use Rattle.psci_tree.proofs.Valid.{all_off_valid}
-use Rattle.psci_tree.proofs.Slices.{whole_kept}
-use Rattle.psci_tree.proofs.Seen.{held_seen}
+use Rattle.psci_tree.proofs.Seen.{held_seen, kept_in}
 use Rattle.psci_tree.proofs.tree.Tree.turn_off.Goals as goal
 
 pub returns-clause-value : goal.returns-clause-value
@@ -16,36 +18,40 @@ returns-clause-value c =
     let was : List (List Depths) = map (λ v. v.items) c.self.inside.depths.items in
     let lengths : map length was ≡ sizes =
     sym (depth_lengths (λ d. d.granted) was) ∙ valid.granted in
-    let kept = with_items_is c.self.inside.depths c.fill_rows.new.rows
-    (omega (arith, c.fill_rows.auto.rows, c.deref_mut.ensures.len)) in
+    let depths = with_items_is c.self.inside.depths c.fill_rows.new.rows
+    (omega (arith, c.fill_rows.auto.rows, c.deref_mut-2.ensures.len)) in
+    let cores : c.fill.new.self.items
+    ≡ replicate (size_below c.self.inside.board.levels) never_started =
+    c.fill.ensures.items (λ y h. h)
+    ∙ ap (λ n. replicate n never_started) (c.self.inside.cores.ok.0 ∙ valid.cores) in
     rw (
       ← c.self.view_is,
-      kept,
+      depths,
       c.fill_rows.ensures,
-      c.deref_mut.ensures.value,
+      c.deref_mut-2.ensures.value,
       lengths,
       filled_depths (λ d. d.granted) sizes deepest,
       filled_depths (λ d. d.confirmed) sizes deepest,
-      c.turn_off.ensures.cores,
-      valid.cores,
+      cores,
     )
 
 pub invariant_of-self : goal.invariant_of-self
 invariant_of-self c =
-    let cores : List CoreState = c.self.inside.cores.items in
-    let ways : List Way = c.self.inside.ways.items in
-    let held = held_seen c.self.inside _ c.self.invariant c.self.view_is in
-    let root : Domain = c.turn_off.new.root in
-    let levels : List (List ℕ) = c.args.self.now.levels in
-    subst (IsHeld root c.fill.new.self.items ways) (sym (returns-clause-value c)) (record {
+    let t : TreeValue = c.args.self.now in
+    let held = held_seen c.self.inside t c.self.invariant c.self.view_is in
+    let rows = with_items_is c.self.inside.kept c.turn_off.new.rows
+    (omega (arith, c.turn_off.auto.rows, c.deref_mut.ensures.len)) in
+    let now : List (List Kept) =
+    map (λ v. v.items) (with_items c.self.inside.kept c.turn_off.new.rows).items in
+    let kept : AreKept t.levels (replicate (size_below t.levels) never_started) now =
+    rw (rows, c.turn_off.ensures, c.deref_mut.ensures.value)
+    (turned_off t.levels t.cores (kept_in c.self.inside)
+    (c.law_spans.ensures t.levels held.tied.valid.tree) held.tied.valid.cores held.tied.kept) in
+    subst (IsHeld now c.self.inside.ways.items) (sym (returns-clause-value c)) (record {
       tied = record {
-        whole = whole_kept c.self.inside.root root levels c.turn_off.ensures.shape held.tied.whole;
-        kept = c.turn_off.ensures.kept;
-        valid = all_off_valid levels held.tied.valid.tree held.tied.valid.high;
+        kept = kept;
+        valid = all_off_valid t.levels held.tied.valid.tree held.tied.valid.high;
       };
-      row = c.fill.ensures.items (λ y h. h)
-          ∙ ap (λ n. replicate n never_started) (c.self.inside.cores.ok.0
-          ∙ ap length held.row ∙ held.tied.valid.cores);
       lead = held.lead;
     })
 

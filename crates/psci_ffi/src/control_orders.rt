@@ -1,0 +1,133 @@
+//! What the power controller's side of a port orders, as C sees it.
+
+ghost use Rattle.std.specs.Prelude.{◌≡◌, ◌<◌};
+ghost use Rattle.psci_board.specs.Board.{cores};
+ghost use Rattle.psci_control.specs.ControlSide.{board_of, values_of};
+ghost use Rattle.psci_ffi.specs.ControlShown.{domain_at, due_orders, end_number};
+ghost use Rattle.psci_ffi.specs.ControlShown.{none_ordered, orders_shown};
+ghost use Rattle.psci_ffi.specs.ControlShown.{with_domain, with_order};
+
+use crate::answer::{SomeFrame, no_frame};
+use crate::controller_answer::{
+    ControllerStart, DomainDepth, NO_DOMAIN, NO_START, start_of, write_ack,
+};
+use psci_board::{Board, Core};
+use psci_control::{ControlSide, Ending, Order, Orders};
+use std::mem::size_of;
+
+/// What a call orders, to be done in the order of its fields.
+#[repr(C)]
+#[derive(Clone, Copy)]
+pub struct ControlOrders {
+    /// 0 the rest is to be carried out, 1 nothing is to be done; from 16 on the call was refused,
+    /// and nothing changed.
+    pub what: u32,
+    /// How many domains go to their depths.
+    pub many: u32,
+    /// These domains, the lowest level first; zeros after them.
+    pub domains: [DomainDepth; 4],
+    /// The start of a core, each domain on whose path has its power; else zeros.
+    pub start: ControllerStart,
+    /// The acknowledgement, which goes back to the firmware.
+    pub ack: SomeFrame,
+    /// How the life ends: 0 it goes on, 1 the system goes off, 2 the next life begins.
+    pub ends: u32,
+}
+
+// The size that psci_port.h gives it.
+const _: () = prove!(size_of::<ControlOrders>() == 116);
+
+/// Nothing is to be done.
+const WAITS: u32 = 1;
+
+/// Writes this number, and no order.
+pub fn write_none(orders: &mut ControlOrders, what: u32)
+    ensures { orders.new ≡ none_ordered what }
+{
+    orders.what = what;
+    orders.many = 0;
+    orders.domains = [NO_DOMAIN; 4];
+    orders.start = NO_START;
+    orders.ack = no_frame();
+    orders.ends = 0;
+}
+
+/// Writes what is ordered, if anything is to be done.
+pub fn write_ordered(orders: &mut ControlOrders, side: &ControlSide, due: Option<Orders>)
+    ensures { orders.new ≡ due_orders (board_of side.now) (values_of side.now) due }
+{
+    match due {
+        None => write_none(orders, WAITS),
+        Some(due) => write_orders(orders, side, due),
+    }
+}
+
+/// Writes one order after the other.
+#[inline(never)]
+pub fn write_orders(orders: &mut ControlOrders, side: &ControlSide, mut due: Orders)
+    ensures { orders.new ≡ orders_shown (board_of side.now) (values_of side.now) due }
+{
+    write_none(orders, 0);
+    while let Some(order) = due.next() {
+        write_order(orders, side, &order);
+    }
+}
+
+/// Writes one order.
+fn write_order(orders: &mut ControlOrders, side: &ControlSide, order: &Order)
+    ensures { orders.new
+        ≡ with_order (board_of side.now) (values_of side.now) order.now orders.old }
+{
+    let controller = side.controller();
+    match order {
+        Order::Switch(core, level, depth) => {
+            if let Some(core) = controller.board().core(core.number) {
+                write_domain(orders, domain_at(controller.board(), core, *level, *depth));
+            }
+        }
+        Order::Raise(core) => {
+            if let Some(core) = controller.board().core(core.number) {
+                orders.start = start_of(core, controller.started(core));
+            }
+        }
+        Order::Acknowledge(ack) => write_ack(&mut orders.ack, ack),
+        Order::End(ending) => orders.ends = end_number(*ending),
+    }
+}
+
+/// The domain of this level on the path of a core, with its depth.
+fn domain_at(board: &Board, core: Core, level: u32, depth: u8) -> DomainDepth
+    requires { core.number < cores board.now }
+    ensures { result ≡ domain_at board.now core level depth }
+{
+    let path = board.path(core);
+    let index = match path.as_slice().get(level as usize) {
+        Some(node) => node.place,
+        None => 0,
+    };
+    DomainDepth {
+        level,
+        index,
+        depth,
+    }
+}
+
+/// Writes one more domain, if there is room.
+fn write_domain(orders: &mut ControlOrders, domain: DomainDepth)
+    ensures { orders.new ≡ with_domain domain orders.old }
+{
+    if orders.many < 4 {
+        orders.domains[orders.many as usize] = domain;
+        orders.many += 1;
+    }
+}
+
+/// The number of how a life ends.
+fn end_number(ending: Ending) -> u32
+    ensures { result ≡ end_number ending }
+{
+    match ending {
+        Ending::Off => 1,
+        Ending::Restart => 2,
+    }
+}

@@ -1,0 +1,190 @@
+-- Worked examples: what is told of a turn.
+use Rattle.std.proofs.Common.{◌∙◌, ◌∷◌, ◌≡◌, [], ap, arith, List, None, Option, pos, refl, Some}
+use Rattle.std.proofs.Common.{sym, ℕ}
+use Rattle.std.proofs.lemmas.Option.{none-some}
+use Rattle.psci_board.specs.Board.{height}
+use Rattle.psci_messages.specs.declared.start.Cause.{Cause}
+use Rattle.psci_messages.specs.declared.start.Cause.TheVariants as causes
+use Rattle.psci_fw_spec.specs.declared.outcome.Act.{Act}
+use Rattle.psci_fw_spec.specs.declared.outcome.Act.TheVariants as acts
+use Rattle.psci_fw_spec.specs.declared.outcome.Outcome.{Outcome}
+use Rattle.psci_messages.specs.declared.kind.Kind.{Kind}
+use Rattle.psci_messages.specs.declared.kind.Kind.TheVariants as kinds
+use Rattle.psci_world_spec.specs.declared.place.Place.TheVariants.{Started}
+use Rattle.psci_world_spec.specs.declared.said.Record.{Record}
+use Rattle.psci_world_spec.specs.Places.{place}
+use Rattle.psci_world_spec.proofs.Scripts.{board, tall}
+use Rattle.psci_guest.specs.declared.arrival.Arrival.{Arrival}
+use Rattle.psci_guest.specs.declared.turned.Turned.{Turned}
+use Rattle.psci_guest.specs.Arrivals.{AreArrivals}
+use Rattle.psci_guest.specs.Guest.{IsAfter, IsKicked, IsTold, IsTurned}
+use Rattle.psci_guest.specs.Pair.{Kept, PairValue}
+use Rattle.psci_guest.specs.Turns.{event_of, exchange, turns, Wakes}
+use Rattle.psci_guest.proofs.ArrivalRows.{by_core}
+use Rattle.psci_guest.proofs.TurnRows.{computing, on_3, system_off, system_reset}
+
+-- the boot core has entered
+abbrev began : List Record
+began = turns board []
+
+-- a core enters by its first start of a life
+abbrev enters : ℕ → ℕ → Cause → Outcome → Arrival
+enters c life cause outcome = record {
+  core = record { number = c };
+  start = record { life = life; number = 1; cause = cause };
+  outcome = outcome;
+}
+
+-- this, and nothing is sent
+abbrev quiet : Act → Outcome
+quiet act = record { act = act; message = None }
+
+-- this, and a message of core c in life 1, without parts
+abbrev sends : Act → Kind → ℕ → ℕ → Outcome
+sends act kind c number = record {
+  act = act;
+  message = Some (record {
+    kind = kind;
+    core = record { number = c };
+    life = 1;
+    number = number;
+    parts = [];
+  });
+}
+
+-- core 3, where the boot core asked
+abbrev third : Arrival
+third = enters 3 1 causes.On (quiet (acts.Enter 0x40001000 7))
+
+abbrev success : Outcome
+success = sends (acts.Return (record { 0 = pos 0 })) kinds.Start 3 0
+
+-- core 3 is asked on
+told : IsTold board began on_3 (record { outcome = success; arrival = Some third; life = Some 1 })
+unfolding computing
+told = record {
+  says = (refl, refl);
+  arrival = record {
+    core = omega arith;
+    started = refl;
+    start = refl;
+    says = (refl, refl);
+    alone = λ c on.
+        by_core (λ x. place board (exchange board began (event_of on_3)) x ≡ Started → x ≡ 3)
+        (λ e. absurd (cc)) (λ e. absurd (cc)) (λ e. absurd (cc)) (λ e. refl) c on;
+  };
+  life = refl;
+}
+
+other_act : IsTold board began on_3
+    (record { outcome = quiet acts.Stop; arrival = Some third; life = Some 1 }) → ⊥
+unfolding computing
+other_act is = let act = is.says.0 in absurd (cc)
+
+nobody_enters : IsTold board began on_3
+    (record { outcome = success; arrival = None; life = Some 1 }) → ⊥
+unfolding computing
+nobody_enters is = is.arrival 3 (omega arith) refl
+
+no_life : IsTold board began on_3
+    (record { outcome = success; arrival = Some third; life = None }) → ⊥
+unfolding computing
+no_life is = let life = is.life in absurd (cc)
+
+-- core 3 has entered
+abbrev third_on : List Record
+third_on = turns board (on_3 ∷ [])
+
+-- core 3 resets the system: the boot core enters in the next life
+next_life : IsTold board third_on (system_reset 3) (record {
+  outcome = sends acts.Stop kinds.Reset 3 1;
+  arrival = Some (enters 0 2 causes.Boot (quiet (acts.Enter 0x40000000 0)));
+  life = Some 2;
+})
+unfolding computing
+next_life = record {
+  says = (refl, refl);
+  arrival = record {
+    core = omega arith;
+    started = refl;
+    start = refl;
+    says = (refl, refl);
+    alone = λ c on.
+        by_core (λ x. place board (exchange board third_on (event_of (system_reset 3))) x ≡ Started
+        → x ≡ 0) (λ e. refl) (λ e. absurd (cc)) (λ e. absurd (cc)) (λ e. absurd (cc)) c on;
+  };
+  life = refl;
+}
+
+-- the boot core turns it off: nobody enters
+is_off : IsTold board began (system_off 0)
+    (record { outcome = sends acts.Stop kinds.Off 0 1; arrival = None; life = None })
+unfolding computing
+is_off = record {
+  says = (refl, refl);
+  arrival = λ c on.
+      by_core (λ x. place board (exchange board began (event_of (system_off 0))) x ≡ Started → ⊥)
+      (λ e. absurd (cc)) (λ e. absurd (cc)) (λ e. absurd (cc)) (λ e. absurd (cc)) c on;
+  life = refl;
+}
+
+-- core 3 is woken, which nobody asked for: it stands, and all of it goes down
+abbrev parked : Outcome
+parked = record {
+  act = acts.Stop;
+  message = Some (record {
+    kind = kinds.Down;
+    core = record { number = 3 };
+    life = 1;
+    number = 1;
+    parts = record { level = 0; depth = 3; generation = 1 }
+        ∷ record { level = 1; depth = 3; generation = 1 } ∷ [];
+  });
+}
+
+parks : AreArrivals board (exchange board began (event_of (Wakes 3)))
+    (Some (enters 3 1 causes.Wake parked))
+unfolding computing
+parks = record {
+  core = omega arith;
+  started = refl;
+  start = refl;
+  says = (refl, refl);
+  alone = λ c on.
+      by_core (λ x. place board (exchange board began (event_of (Wakes 3))) x ≡ Started → x ≡ 3)
+      (λ e. absurd (cc)) (λ e. absurd (cc)) (λ e. absurd (cc)) (λ e. refl) c on;
+}
+
+-- What a turn leaves -----------------------------------------------------------------------------
+
+-- how often core 3 was started
+abbrev starts_of_3 : Kept → ℕ
+starts_of_3 k = k.controller.starts 3
+
+-- what is kept is that of all turns
+turn_is_left_out : (p : PairValue) → IsAfter board [] p → IsAfter board (on_3 ∷ []) p → ⊥
+unfolding computing
+turn_is_left_out p before after =
+    let no : 0 ≡ 1 = ap starts_of_3 (sym before.kept ∙ after.kept) in absurd (omega (arith, no))
+
+another_board : (p : PairValue) → IsAfter board [] p → IsAfter tall [] p → ⊥
+another_board p here there =
+    let no : 2 ≡ 3 = ap height (sym here.board ∙ there.board) in absurd (omega (arith, no))
+
+-- a turn that was made is told, and is left
+untold : (p : PairValue) → IsTurned board [] on_3 p None → ⊥
+untold p is = none-some is.told is.is
+
+nothing_left : (p : PairValue) (r : Option Turned) → IsAfter board [] p
+    → IsTurned board [] on_3 p r → ⊥
+nothing_left p r before is = turn_is_left_out p before is.after
+
+nothing_woken : (p : PairValue) (r : Option Arrival) → IsAfter board [] p
+    → IsKicked board [] (Wakes 3) p r → ⊥
+unfolding computing
+nothing_woken p r before is =
+    let no : 0 ≡ 1 = ap starts_of_3 (sym before.kept ∙ is.after.kept) in absurd (omega (arith, no))
+
+woken_untold : (p : PairValue) → IsKicked board [] (Wakes 3) p None → ⊥
+unfolding computing
+woken_untold p is = is.arrival 3 (omega arith) refl

@@ -1,0 +1,95 @@
+-- Worked examples of a guest as words, and of words that are refused: a board of one core, which
+-- runs in its first start of life 2.
+use Rattle.std.proofs.Common.{◌≡◌, ◌∙◌, ℕ, false, List, [], ◌∷◌, ◌++◌, length, replicate, Option}
+use Rattle.std.proofs.Common.{ap, Some, None, refl, sym, take, drop}
+use Rattle.psci_board.specs.Board.{BoardValue}
+use Rattle.psci_board.specs.psci_abi.declared.format.Format.TheVariants.{Original}
+use Rattle.psci_messages.specs.declared.start.Cause.TheVariants.{Boot}
+use Rattle.psci_messages.specs.psci_state.declared.cores.Activity.TheVariants.{Active}
+use Rattle.psci_messages.specs.Saved.{slots_words}
+use Rattle.psci_fw_spec.specs.declared.mode.SuspendMode.TheVariants.{Platform}
+use Rattle.psci_fw_spec.specs.declared.status.Status.TheVariants.{On}
+use Rattle.psci_ctl.specs.Saved as controller
+use Rattle.psci_ctl.specs.Seen.{ControllerValue}
+use Rattle.psci_ctl.specs.declared.fault.SavedFault.TheVariants as behind
+use Rattle.psci_fw.specs.Seen.{FirmwareValue}
+use Rattle.psci_fw.specs.declared.fault.OpenFault.TheVariants as opens
+use Rattle.psci_fw_state.specs.Saved as firmware
+use Rattle.psci_fw_state.specs.declared.fault.SavedFault.TheVariants as own
+use Rattle.psci_tree.specs.Saved.{depth_words}
+use Rattle.psci_guest.specs.Pair.{PairValue}
+use Rattle.psci_guest.specs.Saved.{controller_words, firmware_count, firmware_words, IsRefused}
+use Rattle.psci_guest.specs.Saved.{load_fault, saved}
+use Rattle.psci_guest.specs.declared.fault.LoadFault.TheVariants as faults
+
+abbrev pub board : BoardValue
+board = record {
+  levels = (1 ∷ []) ∷ [];
+  ranges = record { start = 0; end = 64 } ∷ [];
+  boot = 0;
+  starts = 9;
+  lives = 3;
+  format = Original;
+}
+
+abbrev pub pair : PairValue
+pair = record {
+  firmware = record {
+    board = board;
+    life = 2;
+    halting = false;
+    mode = Platform;
+    tree = record {
+      levels = board.levels;
+      cores = record { activity = Active; known = 1 } ∷ [];
+      granted = (0 ∷ []) ∷ (0 ∷ []) ∷ [];
+      confirmed = (0 ∷ []) ∷ (0 ∷ []) ∷ [];
+    };
+    rows = record { status = On; opening = None } ∷ [];
+    counts = (record { on = 1; pending = 0 } ∷ []) ∷ [];
+    slots = record { cores = None ∷ []; system = None };
+  };
+  controller = record {
+    board = board;
+    life = Some 2;
+    cores = record { starts = 1; cause = Boot } ∷ [];
+    domains =
+        (record { depth = 0; starts = 1 } ∷ []) ∷ (record { depth = 0; starts = 1 } ∷ []) ∷ [];
+  };
+}
+
+-- Words ------------------------------------------------------------------------------------------
+
+-- the firmware's come first, then all others
+so_many : (firmware_count board ≡ 39) × (length (saved pair) ≡ 45)
+    × (take 1 (saved pair) ≡ 0x177667370 ∷ [])
+    × (take 1 (drop 39 (saved pair)) ≡ 0x16c746370 ∷ [])
+unfolding firmware.saved controller.saved depth_words slots_words
+so_many = (refl, refl, refl, refl)
+
+cut : (firmware_words board (replicate 39 1 ++ 2 ∷ 3 ∷ []) ≡ replicate 39 1)
+    × (controller_words board (replicate 39 1 ++ 2 ∷ 3 ∷ []) ≡ 2 ∷ 3 ∷ [])
+    × (firmware_words board (1 ∷ []) ≡ 1 ∷ []) × (controller_words board (1 ∷ []) ≡ [])
+cut = (refl, refl, refl, refl)
+
+-- Refusals ---------------------------------------------------------------------------------------
+
+same_reason : (load_fault opens.Memory ≡ faults.Memory)
+    × (load_fault (opens.Words own.Sum) ≡ faults.Firmware own.Sum)
+    × (load_fault opens.Values ≡ faults.Values)
+same_reason = (refl, refl, refl)
+
+-- memory may lack for any words; a word alone is too few
+too_few : IsRefused board (saved pair) faults.Memory
+    × IsRefused board (1 ∷ []) (faults.Firmware own.Length)
+    × (IsRefused board (1 ∷ []) (faults.Firmware own.Format) → ⊥)
+    × (IsRefused board (1 ∷ []) faults.Values → ⊥)
+    × (IsRefused board (1 ∷ []) (faults.Controller behind.Length) → ⊥)
+unfolding firmware.saved firmware.saved_fault
+too_few = (
+  tt,
+  refl,
+  λ is. absurd (cc),
+  λ is. let no = is.0 in absurd (cc),
+  λ is. let no = is.opened.words in absurd (cc),
+)

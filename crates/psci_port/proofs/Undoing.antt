@@ -1,0 +1,244 @@
+-- What parts that are applied, and starts, leave to be done of each message.
+use Rattle.std.proofs.Common.{◌+◌, ◌<◌, ◌==◌, ◌∙◌, ◌∷◌, ◌≡◌, ◌≤◌, ◌⊎◌, [], ap, arith, Bool, cond}
+use Rattle.std.proofs.Common.{false, inl, inr, List, None, not, Option, refl, Some, subst, suc}
+use Rattle.std.proofs.Common.{sym, take, true, zero, ℕ}
+use Rattle.std.specs.Prelude.{◌&&◌, slice_get}
+use Rattle.std.proofs.lemmas.Bool.{and_from, and_parts, cases_eq, cond-false, cond-true}
+use Rattle.std.proofs.lemmas.Bool.{eq-eqb, eqb-true, false≢true, ne_eqb}
+use Rattle.std.proofs.lemmas.Option.{none-some}
+use Rattle.psci_board.specs.Board.{BoardValue, cores, domain_of, height, up}
+use Rattle.psci_board.specs.Paths.{is_on_path}
+use Rattle.psci_ctl_spec.specs.psci_messages.Message.{ArePartsOf, MessageValue}
+use Rattle.psci_ctl_spec.specs.psci_messages.declared.kind.Kind.{Kind}
+use Rattle.psci_ctl_spec.specs.psci_messages.declared.kind.Kind.TheVariants as kinds
+use Rattle.psci_ctl_spec.specs.psci_messages.declared.part.Part.{Part}
+use Rattle.psci_ctl_spec.specs.psci_messages.declared.start.Cause.{Cause}
+use Rattle.psci_ctl_spec.specs.Changes.{change, one_more}
+use Rattle.psci_ctl_spec.proofs.Front.{take_get}
+use Rattle.psci_ctl_spec.specs.Follows.{IsFront}
+use Rattle.psci_ctl_spec.specs.Effects.{Starts}
+use Rattle.psci_ctl_spec.specs.Parts.{depth_or, is_live, laid}
+use Rattle.psci_ctl_spec.specs.Values as controlled
+use Rattle.psci_world_spec.specs.psci_fw_spec.Values.{Values}
+use Rattle.psci_headline.specs.psci_fw_laws.KnownBelow.{known_below}
+use Rattle.psci_headline.specs.Waiting.{IsLivePart}
+use Rattle.psci_headline.proofs.Controls.{IsKnown, part_level}
+use Rattle.psci_headline.proofs.Deepening.{AreApplied, keeps}
+use Rattle.psci_headline.proofs.Starting.{same_sum}
+use Rattle.psci_port.specs.Undone.{is_undone, undone}
+
+-- Sums -------------------------------------------------------------------------------------------
+
+-- no more of these parts are undone where each that is was before
+pub undone_le : (b : BoardValue) (w u : controlled.Values) (c : ℕ) (ps : List Part)
+    → ((k : ℕ) (p : Part) → slice_get ps k ≡ Some p → is_undone b u c p ≡ true
+    → is_undone b w c p ≡ true) → undone b u c ps ≤ undone b w c ps
+unfolding undone
+undone_le b w u c [] so = omega arith
+undone_le b w u c (p ∷ ps) so =
+    let rest = undone_le b w u c ps (λ k q at. so (suc k) q at) in
+    let own = bit_le (is_undone b u c p) (is_undone b w c p) (so zero p refl) in
+    omega (arith, rest, own)
+  where
+    bit_le : (s t : Bool) → (s ≡ true → t ≡ true) → cond {A = ℕ} s 1 0 ≤ cond t 1 0
+    bit_le false t so = omega arith
+    bit_le true true so = omega arith
+    bit_le true false so = absurd (false≢true (so refl))
+
+-- fewer where one is no more
+undone_lt : (b : BoardValue) (w u : controlled.Values) (c : ℕ) (ps : List Part) (n : ℕ) (q : Part)
+    → ((k : ℕ) (p : Part) → slice_get ps k ≡ Some p → is_undone b u c p ≡ true
+    → is_undone b w c p ≡ true) → slice_get ps n ≡ Some q → is_undone b w c q ≡ true
+    → is_undone b u c q ≡ false → undone b u c ps < undone b w c ps
+unfolding undone
+undone_lt b w u c [] n q so at was now = absurd (none-some q at)
+undone_lt b w u c (p ∷ ps) zero q so at was now =
+    let rest = undone_le b w u c ps (λ k q at. so (suc k) q at) in
+    bit (is_undone b u c p) (is_undone b w c p)
+    (ap (is_undone b u c) (same p q at) ∙ now) (ap (is_undone b w c) (same p q at) ∙ was) rest
+  where
+    same : (p q : Part) → Some p ≡ Some q → p ≡ q
+    same p q e = grind arith
+
+    bit : (s t : Bool) → s ≡ false → t ≡ true → undone b u c ps ≤ undone b w c ps
+        → cond {A = ℕ} s 1 0 + undone b u c ps < cond t 1 0 + undone b w c ps
+    bit false true e f le = omega (arith, le)
+    bit true t e f le = absurd (false≢true (sym e))
+    bit false false e f le = absurd (false≢true f)
+undone_lt b w u c (p ∷ ps) (suc n) q so at was now =
+    let rest = undone_lt b w u c ps n q (λ k q at. so (suc k) q at) at was now in
+    bit (is_undone b u c p) (is_undone b w c p) (so zero p refl) rest
+  where
+    bit : (s t : Bool) → (s ≡ true → t ≡ true) → undone b u c ps < undone b w c ps
+        → cond {A = ℕ} s 1 0 + undone b u c ps < cond t 1 0 + undone b w c ps
+    bit false true so lt = omega (arith, lt)
+    bit false false so lt = omega (arith, lt)
+    bit true true so lt = omega (arith, lt)
+    bit true false so lt = absurd (false≢true (so refl))
+
+-- Where two differ -------------------------------------------------------------------------------
+
+-- two functions are the same below a bound, or differ somewhere there
+pub differs : (f g : ℕ → ℕ) (n : ℕ)
+    → ((l : ℕ) → l < n → f l ≡ g l) ⊎ ((l : ℕ) × ((l < n) × (f l ≡ g l → ⊥)))
+differs f g zero = inl (λ l low. absurd (omega (arith, low)))
+differs f g (suc n) = elim (differs f g n) [
+  | inr there ↦ inr (there.0, (omega (arith, there.1.0), there.1.1))
+  | inl same ↦ elim (cases_eq (f n) (g n)) [
+    | inr ne ↦ inr (n, (omega arith, ne))
+    | inl e ↦ inl (λ l low. elim (cases_eq l n) [
+      | inl at ↦ subst (λ i. f i ≡ g i) (sym at) e
+      | inr ne ↦ same l (below l low ne)
+    ])
+  ]
+]
+  where
+    below : (l : ℕ) → l < suc n → (l ≡ n → ⊥) → l < n
+    below l low ne = grind (arith, low, ne)
+
+-- a depth that what is laid changes, is that of a part
+pub laid_new : (b : BoardValue) (c : ℕ) (ps : List Part) (depth : ℕ → ℕ → ℕ) (level place : ℕ)
+    → (laid b c ps depth level place ≡ depth level place → ⊥)
+    → (p : Part) × ((slice_get ps level ≡ Some p) × (laid b c ps depth level place ≡ p.depth))
+laid_new b c ps depth level place ne = by (is_on_path b c level place)
+    (slice_get ps level) refl refl
+  where
+    by : (t : Bool) (o : Option Part) → is_on_path b c level place ≡ t → slice_get ps level ≡ o
+        → (p : Part) × ((slice_get ps level ≡ Some p) × (laid b c ps depth level place ≡ p.depth))
+    by false o e f = absurd (ne (cond-false _ _ _ e))
+    by true None e f = absurd (ne (cond-true _ _ _ e ∙ ap (λ o. depth_or o (depth level place)) f))
+    by true (Some p) e f = (
+      p,
+      (f, cond-true _ _ _ e ∙ ap (λ o. depth_or o (depth level place)) f),
+    )
+
+-- Parts of a message that was sent ---------------------------------------------------------------
+
+pub has_down : (ps : List Part) (level : ℕ) (p : Part) (kind : Kind) → ArePartsOf kind ps
+    → slice_get ps level ≡ Some p → kind ≡ kinds.Down
+has_down ps level p kinds.Down are at = refl
+has_down ps level p kinds.Start are at =
+    absurd (none-some p (sym (ap (λ l. slice_get l level) are) ∙ at))
+has_down ps level p kinds.Off are at =
+    absurd (none-some p (sym (ap (λ l. slice_get l level) are) ∙ at))
+has_down ps level p kinds.Reset are at =
+    absurd (none-some p (sym (ap (λ l. slice_get l level) are) ∙ at))
+
+-- a part that is live once a core was started, was live before, and is not on that one's path
+module _ (b : BoardValue) (life : ℕ) (w : controlled.Values) (v : Values)
+    (sent : List MessageValue) (known : IsKnown b life w.starts v sent) (j : ℕ)
+    (x : MessageValue) (at : slice_get sent j ≡ Some x) (present : x.life ≡ life) where
+  abbrev d : ℕ
+  d = x.core.number
+
+  level_of : (level : ℕ) (p : Part) → slice_get x.parts level ≡ Some p
+      → (p.level ≡ level) × (level ≤ height b)
+  level_of level p get = part_level b life w.starts v sent known j level x p at get
+
+  live_so : (starts : ℕ → ℕ) (level : ℕ) (p : Part) → slice_get x.parts level ≡ Some p
+      → (p.generation == controlled.starts_below b starts (domain_of b d p.level)) ≡ true
+      → IsLivePart b starts x level p
+  live_so starts level p get test =
+      eqb-true _ _ test ∙ same_sum b starts (domain_of b d p.level)
+      ∙ ap (λ l. known_below b starts l (up b l d)) (level_of level p get).0
+
+  down : (level : ℕ) (p : Part) → slice_get x.parts level ≡ Some p → x.kind ≡ kinds.Down
+  down level p get =
+      has_down x.parts level p x.kind (known.messages j x at).sound.parts get
+
+  -- parts of a Down were applied
+  pub deepened : (c : ℕ) (ps : List Part) → AreApplied b life w.starts sent c ps
+      → (level : ℕ) (p : Part) → slice_get x.parts level ≡ Some p
+      → is_undone b (record w { depth = laid b c ps w.depth }) d p ≡ true
+      → is_undone b w d p ≡ true
+  deepened c ps are level p get test =
+      let both = and_parts (is_live b w d p) _ test in
+      by (w.depth p.level (up b p.level d) == p.depth) refl both.0 both.1
+    where
+      by : (t : Bool) → (w.depth p.level (up b p.level d) == p.depth) ≡ t
+          → is_live b w d p ≡ true
+          → not (laid b c ps w.depth p.level (up b p.level d) == p.depth) ≡ true
+          → is_undone b w d p ≡ true
+      by false e live other = and_from (is_live b w d p) _ live (ap not e)
+      by true e live other =
+          let flat = (level_of level p get).0 in
+          let deep : w.depth level (up b level d) ≡ p.depth =
+          ap (λ l. w.depth l (up b l d)) (sym flat) ∙ eqb-true _ _ e in
+          let kept = keeps b life w.starts w.depth sent c ps known.apart are j level x p at present
+          (down level p get) get (live_so w.starts level p get live) deep in
+          absurd (false≢true (
+          sym (ap not (eq-eqb _ _ (ap (λ l. laid b c ps w.depth l (up b l d)) flat ∙ kept)))
+          ∙ other))
+
+  -- a core was started
+  pub started : (c : ℕ) (cause : Cause) → c < cores b → (level : ℕ) (p : Part)
+      → slice_get x.parts level ≡ Some p
+      → is_undone b (change b (Starts c cause) w) d p ≡ true → is_undone b w d p ≡ true
+  started c cause on level p get test =
+      let both = and_parts (is_live b (change b (Starts c cause) w) d p) _ test in
+      let flat = (level_of level p get).0 in
+      let low : p.level ≤ height b =
+      subst (λ l. l ≤ height b) (sym flat) (level_of level p get).1 in
+      let more = known.sums.more w.starts c p.level (up b p.level d) on low in
+      let old = ((known.messages j x at).present present).older level p get in
+      let below = known.below level (up b level d) in
+      let was : known_below b w.starts level (up b level d)
+      ≡ controlled.starts_below b w.starts (domain_of b d p.level) =
+      ap (λ l. known_below b w.starts l (up b l d)) (sym flat)
+      ∙ sym (same_sum b w.starts (domain_of b d p.level)) in
+      let live = eqb-true _ _ both.0 in
+      by (is_on_path b c p.level (up b p.level d)) refl
+      (omega (arith, more, old, below, was, live)) live more both.1
+    where
+      by : (t : Bool) → is_on_path b c p.level (up b p.level d) ≡ t
+          → (cond {A = ℕ} (is_on_path b c p.level (up b p.level d)) 1 0 ≡ 0)
+          → p.generation ≡ controlled.starts_below b (one_more w.starts c) (domain_of b d p.level)
+          → controlled.starts_below b (one_more w.starts c) (domain_of b d p.level)
+          ≡ controlled.starts_below b w.starts (domain_of b d p.level)
+          + cond (is_on_path b c p.level (up b p.level d)) 1 0
+          → not ((change b (Starts c cause) w).depth p.level (up b p.level d) == p.depth) ≡ true
+          → is_undone b w d p ≡ true
+      by true e none live more other =
+          let one : cond {A = ℕ} (is_on_path b c p.level (up b p.level d)) 1 0 ≡ 1 =
+          cond-true _ _ _ e in absurd (omega (arith, none, one))
+      by false e none live more other = and_from (is_live b w d p) _
+          (eq-eqb _ _ (omega (arith, live, more, none)))
+          (ap (λ n. not (n == p.depth)) (sym (cond-false _ _ _ e)) ∙ other)
+
+-- Its own message --------------------------------------------------------------------------------
+
+-- parts of a Down were applied, and some domain on its path got another depth
+module _ (b : BoardValue) (life : ℕ) (w : controlled.Values) (v : Values)
+    (sent : List MessageValue) (known : IsKnown b life w.starts v sent) (j : ℕ)
+    (x : MessageValue) (at : slice_get sent j ≡ Some x) (present : x.life ≡ life)
+    (n : ℕ) (front : IsFront b w x.core.number (take n x.parts))
+    (are : AreApplied b life w.starts sent x.core.number (take n x.parts)) where
+  abbrev c : ℕ
+  c = x.core.number
+
+  abbrev laying : ℕ → ℕ → ℕ
+  laying = laid b c (take n x.parts) w.depth
+
+  pub fewer : (level : ℕ) → (laying level (up b level c) ≡ w.depth level (up b level c) → ⊥)
+      → undone b (record w { depth = laying }) c x.parts < undone b w c x.parts
+  fewer level ne =
+      let new = laid_new b c (take n x.parts) w.depth level (up b level c) ne in
+      let p : Part = new.0 in
+      let get = take_get x.parts n level p new.1.0 in
+      let flat : p.level ≡ level = front.level level p new.1.0 in
+      let deep : laying p.level (up b p.level c) ≡ p.depth =
+      ap (λ l. laying l (up b l c)) flat ∙ new.1.1 in
+      let other : w.depth p.level (up b p.level c) ≡ p.depth → ⊥ =
+      λ e. ne (new.1.1 ∙ sym e ∙ ap (λ l. w.depth l (up b l c)) flat) in
+      let live : is_live b w c p ≡ true =
+      eq-eqb _ _ (front.live level p new.1.0
+      ∙ ap (λ l. controlled.starts_below b w.starts (domain_of b c l)) (sym flat)) in
+      undone_lt b w (record w { depth = laying }) c x.parts level p
+      (λ k q here. deepened b life w v sent known j x at present c (take n x.parts) are k q here)
+      get (and_from _ _ live (ap not (ne_eqb _ _ other)))
+      (off (is_live b w c p) (not (laying p.level (up b p.level c) == p.depth))
+      (ap not (eq-eqb _ _ deep)))
+    where
+      off : (s t : Bool) → t ≡ false → (s && t) ≡ false
+      off true t e = e
+      off false t e = refl

@@ -1,0 +1,4 @@
+pub mod FrameDigits
+pub mod RadixDigits
+pub mod LineFeeds
+mod LineRows

@@ -1,0 +1,292 @@
+-- A call of the firmware ends: what it sends is paid for, of an entry by the entry.
+use Rattle.std.proofs.Common.{◌+◌, ◌*◌, ◌<◌, ◌==◌, ◌∙◌, ◌++◌, ◌≡◌, ◌≤◌, ◌⊎◌, ap, arith, Bool}
+use Rattle.std.proofs.Common.{cond, false, inl, inr, List, None, Option, refl, Some, subst, suc}
+use Rattle.std.proofs.Common.{sym, true, ℕ}
+use Rattle.std.specs.Prelude.{slice_get}
+use Rattle.std.proofs.lemmas.Bool.{eqb-false}
+use Rattle.std.proofs.lemmas.Bool.Decides.{nat_tests}
+use Rattle.std.proofs.lemmas.Option.{none-some}
+use Rattle.psci_abi.specs.declared.registers.Regs.{Regs}
+use Rattle.psci_board.specs.Board.{BoardValue, cores}
+use Rattle.psci_board.specs.declared.node.Core.{Core}
+use Rattle.psci_fw.specs.Seen.{FirmwareValue, seen as remembers}
+use Rattle.psci_fw_spec.specs.Said.{listed}
+use Rattle.psci_fw_spec.specs.Values.{Values as Remembered}
+use Rattle.psci_fw_spec.specs.declared.call.FwCall.{FwCall}
+use Rattle.psci_fw_spec.specs.declared.call.FwCall.TheVariants as calls
+use Rattle.psci_fw_spec.specs.declared.reply.FwReply.{FwReply}
+use Rattle.psci_fw_spec.specs.declared.reply.FwReply.TheVariants as replies
+use Rattle.psci_messages.specs.Message.{MessageValue}
+use Rattle.psci_messages.specs.Slots.{OfCore, OfSystem, Slot, slot_of}
+use Rattle.psci_messages.specs.declared.kind.Kind.{Kind}
+use Rattle.psci_messages.specs.declared.start.Start.{Start}
+use Rattle.psci_port.specs.Port.{Act, Port, state}
+use Rattle.psci_port.specs.Resting.{total}
+use Rattle.psci_port.specs.Undone.{IsListed}
+use Rattle.psci_world_spec.specs.Histories.{sent as sent_in}
+use Rattle.psci_port.proofs.Keeping.{IsKept}
+use Rattle.psci_port.proofs.Running.{run_kept}
+use Rattle.psci_control.specs.ControlSide.{values_of}
+use Rattle.psci_enter.specs.Side.{IsAsked, reply_in}
+use Rattle.psci_sides.specs.Frames.{IsUnderWay}
+use Rattle.psci_sides.specs.Machine.{IsIn, Machine, answered, orders_by, returned, side_by, side_of}
+use Rattle.psci_sides.specs.Seen.{IsLent, IsMachineOf}
+use Rattle.psci_sides.specs.Steps.{EndCall, May, after}
+use Rattle.psci_sides.proofs.Given.{Follows, Given, IsSeen}
+use Rattle.psci_sides.proofs.Listed.{listed_here, rest_down, rest_most}
+use Rattle.psci_sides.proofs.Owing.{IsCalling, Owes, OwesNext, Pays, pays_later, rest, unheard}
+use Rattle.psci_sides.proofs.Paying.{pays_core, pays_system}
+use Rattle.psci_sides.proofs.Quietly.{core_words}
+use Rattle.psci_sides.proofs.Sends.{IsLeftBy, call_out, entry_down, entry_out, message_in}
+use Rattle.psci_sides.proofs.Settling.{weight}
+
+core_of : (k : Kind) (core : Core) (d : ℕ) → slot_of k core ≡ OfCore d → core.number ≡ d
+core_of k core d e = grind (arith, nat_tests)
+
+other_core : {i d : ℕ} → OfCore i ≡ OfCore d → i ≡ d
+other_core e = grind arith
+
+no_core : {d : ℕ} → OfSystem ≡ OfCore d → ⊥
+no_core e = cc
+
+same_message : {x y : MessageValue} → Some x ≡ Some y → x ≡ y
+same_message e = grind arith
+
+module _ (b : BoardValue) (given : Given b) (m : Machine) (acts : List Act)
+    (seen : IsSeen b m acts) (all : ℕ) (owes : Owes b m acts all) where
+  abbrev p : Port
+  p = state b acts
+
+  abbrev is : IsMachineOf b m p
+  is = seen.tied
+
+  abbrev kept : IsKept p
+  kept = run_kept b acts seen.run
+
+  -- who is lent the firmware has the lock
+  lent_lock : (d : ℕ) → d < cores b → (call : FwCall) → (m.station d).lent ≡ Some call
+      → p.lock ≡ Some d
+  lent_lock d within call lent =
+      let own = subst (λ o. IsLent d (m.side d).post o (p.row d).begun) lent (is.each d within).lent
+      in kept.held.calls d own.0 own.1.0
+
+  module _ (c : ℕ) (has : c < cores b) (call : FwCall) (lent : (m.station c).lent ≡ Some call)
+      (g : FirmwareValue) (reply : FwReply)
+      (sends : (orders_by (side_of m c) call reply).send ≡ message_in reply)
+      (out : (slot : Slot) → IsLeftBy (message_in reply) ((remembers m.firmware).outstanding slot)
+      ((remembers g).outstanding slot))
+      (next : List Act) (later : IsSeen b (answered m c g call reply) next)
+      (low : weight b next < weight b acts) where
+    abbrev l : Machine
+    l = answered m c g call reply
+
+    -- no call of the normal world is left
+    none_calls : IsCalling b l → ⊥
+    none_calls calling = by (calling.0 == c) refl calling.1.1.1
+      where
+        same : (d e : ℕ) → Some d ≡ Some e → d ≡ e
+        same d e eq = grind arith
+
+        by : (t : Bool) → (calling.0 == c) ≡ t
+            → (cond t (record (m.station c) { lent = None }) (m.station calling.0)).lent
+            ≡ Some (calls.Smc calling.1.1.0) → ⊥
+        by true e at = none-some _ at
+        by false e at = eqb-false calling.0 c e (same calling.0 c (
+            sym (lent_lock calling.0 calling.1.0 (calls.Smc calling.1.1.0) at)
+            ∙ lent_lock c has call lent))
+
+    words : total (unheard l) (cores b) ≤ total (unheard m) (cores b) + 0
+    words = core_words b m c (side_by (side_of m c) call reply)
+        (record (m.station c) { lent = None }) refl
+
+    -- frames that were under way are
+    in_more : (o : Option MessageValue) (x : MessageValue) → IsIn m.mail x
+        → IsIn (listed o ++ m.mail) x
+    in_more None x at = at
+    in_more (Some y) x at = (suc at.0, at.1)
+
+    under : (x : MessageValue) → IsUnderWay m x → IsUnderWay l x
+    under x u = elim u [
+      | inl at ↦ inl (in_more (orders_by (side_of m c) call reply).send x at)
+      | inr at ↦ inr at
+    ]
+
+    still_pays : (o : Option MessageValue) (n : ℕ) → Pays b m o n → Pays b l o n
+    still_pays o n pays = pays_later b m l o n (λ y e i. i) (λ y e u. under y u)
+        (λ y e. omega arith) pays
+
+    -- a slot with no new message
+    abbrev IsOld : Slot → Type 0
+    IsOld slot = ((remembers g).outstanding slot ≡ (remembers m.firmware).outstanding slot)
+        ⊎ ((remembers g).outstanding slot ≡ None)
+
+    old_slot : (slot : Slot) → ((x : MessageValue) → message_in reply ≡ Some x
+        → (remembers g).outstanding slot ≡ Some x → IsOld slot) → IsOld slot
+    old_slot slot none = elim (out slot) [
+      | inl e ↦ inl e
+      | inr other ↦ elim other [
+        | inl e ↦ inr e
+        | inr new ↦ none new.0 new.1.0 new.1.1
+      ]
+    ]
+
+    old_pays : (slot : Slot) (n : ℕ) → IsOld slot
+        → Pays b m ((remembers m.firmware).outstanding slot) n
+        → Pays b l ((remembers g).outstanding slot) n
+    old_pays slot n old pays = elim old [
+      | inl e ↦ subst (λ o. Pays b l o n) (sym e)
+          (still_pays ((remembers m.firmware).outstanding slot) n pays)
+      | inr e ↦ subst (λ o. Pays b l o n) (sym e) tt
+    ]
+
+    listed_now : (slot : Slot) (x : MessageValue) → (remembers g).outstanding slot ≡ Some x
+        → IsListed b (sent_in (state b next).past) slot x
+    listed_now slot x e = listed_here b given l next later slot x e
+
+    -- the new message is under way
+    new_pays : (x : MessageValue) → message_in reply ≡ Some x → (o : Option MessageValue)
+        → o ≡ Some x → Pays b l o (rest b (values_of m.control) x + 2)
+    new_pays x sent o e = subst (λ o. Pays b l o (rest b (values_of m.control) x + 2)) (sym e)
+        (inr (inl (
+          inl (0, ap (λ s. slice_get (listed s ++ m.mail) 0) (sends ∙ sent)),
+          omega arith,
+        )))
+
+    module _ (few : (x : MessageValue) (slot : Slot) → message_in reply ≡ Some x
+        → (remembers g).outstanding slot ≡ Some x
+        → 11 * weight b next + (rest b (values_of m.control) x + 2) + 1
+        ≤ 11 * weight b acts + owes.call) where
+      nothing_new : ((slot : Slot) → IsOld slot) → OwesNext b l next all 0
+      nothing_new old =
+          let few_words = words in
+          pays_system b m l acts next all 0 owes owes.system 0 (λ k. absurd (none_calls k))
+          (λ d within. old_pays (OfCore d) (owes.credit d) (old (OfCore d)) (owes.own d within))
+          (old_pays OfSystem owes.system (old OfSystem) owes.whole)
+          (omega (arith, low, few_words))
+
+      -- it stands in its own slot
+      module _ (x : MessageValue) (sent : message_in reply ≡ Some x) where
+        own_slot : (slot : Slot) (y : MessageValue) → message_in reply ≡ Some y
+            → (remembers g).outstanding slot ≡ Some y → slot_of x.kind x.core ≡ slot
+        own_slot slot y s e = ap (λ (z : MessageValue). slot_of z.kind z.core)
+            (same_message (sym sent ∙ s)) ∙ (listed_now slot y e).own
+
+        all_old : IsOld (slot_of x.kind x.core) → (slot : Slot) → IsOld slot
+        all_old old slot = old_slot slot (λ y s e. subst IsOld (own_slot slot y s e) old)
+
+        new_core : (d : ℕ) → slot_of x.kind x.core ≡ OfCore d
+            → (remembers g).outstanding (OfCore d) ≡ Some x → OwesNext b l next all 0
+        new_core d is_own at =
+            let is_listed = listed_now (OfCore d) x at in
+            let within : d < cores b =
+            subst (λ i. i < cores b) (core_of x.kind x.core d is_own) is_listed.board.board.core in
+            let few_words = words in
+            let much = few x (OfCore d) sent at in
+            pays_core b m l acts next all 0 owes (rest b (values_of m.control) x + 2) 0
+            (λ k. absurd (none_calls k)) d within
+            (new_pays x sent ((remembers g).outstanding (OfCore d)) at)
+            (λ i inside ne. old_pays (OfCore i) (owes.credit i)
+            (old_slot (OfCore i) (λ y s e. absurd (ne (other_core
+            (sym (own_slot (OfCore i) y s e) ∙ is_own))))) (owes.own i inside))
+            (old_pays OfSystem owes.system (old_slot OfSystem (λ y s e. absurd (no_core
+            (sym (own_slot OfSystem y s e) ∙ is_own)))) owes.whole)
+            (omega (arith, much, few_words))
+
+        new_system : slot_of x.kind x.core ≡ OfSystem
+            → (remembers g).outstanding OfSystem ≡ Some x → OwesNext b l next all 0
+        new_system is_own at =
+            let few_words = words in
+            let much = few x OfSystem sent at in
+            pays_system b m l acts next all 0 owes (rest b (values_of m.control) x + 2) 0
+            (λ k. absurd (none_calls k))
+            (λ i inside. old_pays (OfCore i) (owes.credit i)
+            (old_slot (OfCore i) (λ y s e. absurd (no_core
+            (sym is_own ∙ own_slot (OfCore i) y s e)))) (owes.own i inside))
+            (new_pays x sent ((remembers g).outstanding OfSystem) at)
+            (omega (arith, much, few_words))
+
+        by_slot : (slot : Slot) → slot_of x.kind x.core ≡ slot → OwesNext b l next all 0
+        by_slot (OfCore d) is_own = elim (out (OfCore d)) [
+          | inl e ↦ nothing_new (all_old (subst IsOld (sym is_own) (inl e)))
+          | inr other ↦ elim other [
+            | inl e ↦ nothing_new (all_old (subst IsOld (sym is_own) (inr e)))
+            | inr new ↦ new_core d is_own (new.1.1 ∙ sym new.1.0 ∙ sent)
+          ]
+        ]
+        by_slot OfSystem is_own = elim (out OfSystem) [
+          | inl e ↦ nothing_new (all_old (subst IsOld (sym is_own) (inl e)))
+          | inr other ↦ elim other [
+            | inl e ↦ nothing_new (all_old (subst IsOld (sym is_own) (inr e)))
+            | inr new ↦ new_system is_own (new.1.1 ∙ sym new.1.0 ∙ sent)
+          ]
+        ]
+
+      by_message : (o : Option MessageValue) → message_in reply ≡ o → OwesNext b l next all 0
+      by_message None e = nothing_new (λ slot. old_slot slot (λ x s at.
+          absurd (none-some x (sym e ∙ s))))
+      by_message (Some x) e = by_slot x e (slot_of x.kind x.core) refl
+
+  -- What a call leaves, and what an entry does ---------------------------------------------------
+
+  reply_of : ℕ → FwCall → FwReply
+  reply_of c call = reply_in m.firmware c call
+
+  call_sends : (c : ℕ) (regs : Regs) (r : FwReply)
+      → (orders_by (side_of m c) (calls.Smc regs) r).send ≡ message_in r
+  call_sends c regs (replies.Out o) = refl
+  call_sends c regs (replies.Taken t) = refl
+  call_sends c regs (replies.Fault f) = refl
+
+  entry_sends : (c : ℕ) (start : Start) (r : FwReply)
+      → (orders_by (side_of m c) (calls.Enter start) r).send ≡ message_in r
+  entry_sends c start (replies.Out o) = refl
+  entry_sends c start (replies.Taken t) = refl
+  entry_sends c start (replies.Fault f) = refl
+
+  ends_by : (c : ℕ) → c < cores b → (call : FwCall) → (m.station c).lent ≡ Some call
+      → (g : FirmwareValue) → IsAsked c call m.firmware g → (next : List Act)
+      → IsSeen b (answered m c g call (reply_in m.firmware c call)) next
+      → weight b next < weight b acts
+      → OwesNext b (answered m c g call (reply_in m.firmware c call)) next all 0
+  ends_by c has (calls.Smc regs) lent g asked next later low =
+      by_message c has (calls.Smc regs) lent g (reply_in m.firmware c (calls.Smc regs))
+      (call_sends c regs (reply_in m.firmware c (calls.Smc regs)))
+      (λ slot. subst (λ (v : Remembered). IsLeftBy
+      (message_in (reply_in m.firmware c (calls.Smc regs)))
+      ((remembers m.firmware).outstanding slot) (v.outstanding slot)) (sym asked.values)
+      (call_out m.firmware.board (remembers m.firmware) c slot regs
+      (reply_in m.firmware c (calls.Smc regs))))
+      next later low
+      (λ x slot s e.
+      let most = rest_most b (values_of m.control) x
+      (listed_here b given _ next later slot x e).board (omega (arith, has)) in
+      let much = owes.calls (c, (has, (regs, lent))) in omega (arith, most, much, low))
+      (message_in (reply_in m.firmware c (calls.Smc regs))) refl
+  ends_by c has (calls.Enter start) lent g asked next later low =
+      by_message c has (calls.Enter start) lent g (reply_in m.firmware c (calls.Enter start))
+      (entry_sends c start (reply_in m.firmware c (calls.Enter start)))
+      (λ slot. subst (λ (v : Remembered). IsLeftBy
+      (message_in (reply_in m.firmware c (calls.Enter start)))
+      ((remembers m.firmware).outstanding slot) (v.outstanding slot)) (sym asked.values)
+      (entry_out m.firmware.board (remembers m.firmware) c slot start
+      (reply_in m.firmware c (calls.Enter start))))
+      next later low
+      (λ x slot s e.
+      let most = rest_down b (values_of m.control) x
+      (listed_here b given _ next later slot x e).board
+      (entry_down m.firmware.board (remembers m.firmware) c start x s) in omega (arith, most, low))
+      (message_in (reply_in m.firmware c (calls.Enter start))) refl
+  ends_by c has (calls.Take ack) lent g asked next later low =
+      let own = subst (λ o. IsLent c (m.side c).post o (p.row c).begun) lent (is.each c has).lent in
+      absurd own.1.1
+
+  pub ended_next : (c : ℕ) (g : FirmwareValue) → (may : May b m (EndCall c g))
+      → (next : Follows b m acts (EndCall c g))
+      → weight b (next.0 ++ acts) < weight b acts
+      → OwesNext b (after b m (EndCall c g)) (next.0 ++ acts) all 0
+  unfolding after
+  ended_next c g may next low =
+      subst (λ o. OwesNext b (returned m c g o) (next.0 ++ acts) all 0) (sym may.1.1.0)
+      (ends_by c may.0 may.1.0 may.1.1.0 g may.1.1.1 (next.0 ++ acts)
+      (subst (λ o. IsSeen b (returned m c g o) (next.0 ++ acts)) may.1.1.0 next.2)
+      (subst (λ o. weight b (next.0 ++ acts) < weight b acts) may.1.1.0 low))

@@ -1,0 +1,225 @@
+-- Machines for worked examples of frames, of any board: each core was started once and runs, and
+-- the firmware waits for one message, of which a frame is in the mailbox.
+use Rattle.std.proofs.Common.{◌∙◌, ◌∷◌, ◌≡◌, [], ap, Bool, false, inl, inr, List, None}
+use Rattle.std.proofs.Common.{Option, refl, Some, subst, suc, sym, true, zero, ℕ}
+use Rattle.std.specs.Prelude.{replicate}
+use Rattle.std.proofs.lemmas.Option.{none-some}
+use Rattle.psci_board.specs.Board.{BoardValue}
+use Rattle.psci_board.specs.declared.node.Core.{Core}
+use Rattle.psci_messages.specs.Message.{AckValue, MessageValue}
+use Rattle.psci_messages.specs.Slots.{SlotsValue, message_in, no_messages, slot_of}
+use Rattle.psci_messages.specs.Slots.{with_message}
+use Rattle.psci_messages.specs.declared.kind.Kind.{Kind}
+use Rattle.psci_messages.specs.declared.kind.Kind.TheVariants as kinds
+use Rattle.psci_messages.specs.declared.start.Cause.TheVariants as causes
+use Rattle.psci_state.specs.declared.cores.Activity.TheVariants as activities
+use Rattle.psci_fw.specs.Seen.{FirmwareValue, seen}
+use Rattle.psci_fw_spec.specs.Phases.{Away}
+use Rattle.psci_fw_spec.specs.declared.mode.SuspendMode.TheVariants.{Platform}
+use Rattle.psci_fw_spec.specs.declared.status.Status.TheVariants.{On, Off}
+use Rattle.psci_control.specs.ControlSide.{ControlValue, closed, gate_in, values_of}
+use Rattle.psci_control.specs.declared.gate.Gate.{Gate}
+use Rattle.psci_enter.specs.Again.{outstanding_in}
+use Rattle.psci_enter.specs.declared.post.Post.{Post}
+use Rattle.psci_enter.specs.declared.post.Post.TheVariants.{Running}
+use Rattle.psci_port.specs.Served.{IsSpent}
+use Rattle.psci_sides.specs.Frames.{IsLost, IsOut, IsUnderWay, IsWanted, Serves}
+use Rattle.psci_sides.specs.Kept.{Agree}
+use Rattle.psci_sides.specs.Machine.{IsIn, Machine, cold, empty, new_side}
+use Rattle.psci_sides.specs.Steps.{SendAgain}
+use Rattle.psci_sides.proofs.Pair.{playing}
+
+-- The two sides ----------------------------------------------------------------------------------
+
+-- the life ends with a message of this kind
+abbrev ends_by : Kind → Bool
+ends_by kinds.Down = false
+ends_by kinds.Start = false
+ends_by kinds.Off = true
+ends_by kinds.Reset = true
+
+-- the firmware of four cores that run, in this life, with these messages outstanding; each domain
+-- is fully on
+abbrev firmware : BoardValue → ℕ → Bool → SlotsValue → FirmwareValue
+firmware b life halting slots = record {
+  board = b;
+  life = life;
+  halting = halting;
+  mode = Platform;
+  tree = record {
+    levels = b.levels;
+    cores = replicate 4 (record { activity = activities.Active; known = 1 });
+    granted = [];
+    confirmed = [];
+  };
+  rows = replicate 4 (record { status = On; opening = None });
+  counts = [];
+  slots = slots;
+}
+
+-- what was heard of a core, and what waits at its gate
+abbrev gate : ℕ → Option MessageValue → Gate
+gate word waiting = record closed { opened = 1; word = word; waiting = waiting }
+
+-- the power controller, which started each of four cores once, and has these gates
+abbrev control : BoardValue → Option ℕ → List Gate → ControlValue
+control b life gates = record {
+  controller = record {
+    board = b;
+    life = life;
+    cores = replicate 4 (record { starts = 1; cause = causes.On });
+    domains = replicate 4 (replicate 4 (record { depth = 0; starts = 1 }));
+  };
+  gates = gates;
+}
+
+-- The machines -----------------------------------------------------------------------------------
+
+-- each core is at this post, and has said that it stands, which was heard
+abbrev stood : BoardValue → MessageValue → Post → SlotsValue → List MessageValue → List AckValue
+    → Machine
+stood b x post slots mail acks =
+    record (cold b (firmware b x.life (ends_by x.kind) slots)
+    (control b (Some x.life) (replicate 4 (gate 1 None)))) {
+      side = λ c. record (new_side c) { post = post; used = 1 };
+      station = λ c. record empty { word = 1 };
+      mail = mail;
+      acks = acks;
+      depth = λ level place. 0;
+    }
+
+-- what is outstanding is nothing, or this
+abbrev nothing : SlotsValue
+nothing = record { cores = []; system = None }
+
+abbrev this : MessageValue → SlotsValue
+this x = with_message (no_messages 4) (slot_of x.kind x.core) (Some x)
+
+-- a frame of the message is in the mailbox
+abbrev pub framed : BoardValue → MessageValue → Machine
+framed b x = stood b x Running (this x) (x ∷ []) []
+
+-- it is lost
+abbrev pub lost : BoardValue → MessageValue → Machine
+lost b x = stood b x Running (this x) [] []
+
+-- it is outstanding no more
+abbrev pub taken : BoardValue → MessageValue → Machine
+taken b x = stood b x Running nothing (x ∷ []) []
+
+-- all of it was done
+abbrev pub end_of : MessageValue → AckValue
+end_of x = record {
+  kind = x.kind;
+  core = x.core;
+  life = x.life;
+  number = x.number;
+  applied = 4;
+  stale = false;
+}
+
+-- that is in the mailbox, with the frame or without
+abbrev pub framed_and_ended : BoardValue → MessageValue → Machine
+framed_and_ended b x = stood b x Running (this x) (x ∷ []) (end_of x ∷ [])
+
+abbrev pub ended : BoardValue → MessageValue → Machine
+ended b x = stood b x Running (this x) [] (end_of x ∷ [])
+
+-- a part of it was done, which is in the mailbox
+abbrev pub begun : BoardValue → MessageValue → Machine
+begun b x = stood b x Running (this x) [] (record (end_of x) { applied = 0 } ∷ [])
+
+-- the power controller has no life left
+abbrev pub lifeless : BoardValue → MessageValue → Machine
+lifeless b x =
+    record (framed b x) { control = control b None (replicate 4 (gate 1 None)) }
+
+-- it has heard nothing
+abbrev pub unheard : BoardValue → MessageValue → Machine
+unheard b x =
+    record (framed b x) { control = control b (Some x.life) (replicate 4 (gate 0 None)) }
+
+-- it keeps the frame back, of a core that it has heard, or not
+abbrev pub kept : ℕ → BoardValue → MessageValue → Machine
+kept word b x =
+    record (lost b x) { control = control b (Some x.life) (replicate 4 (gate word (Some x))) }
+
+-- a core has the lock
+abbrev pub holding : ℕ → Machine → Machine
+holding c m = record m { lock = Some c }
+
+-- no core is in the normal world
+abbrev pub at_post : Post → Machine → Machine
+at_post post m = record m { side = λ c. record (m.side c) { post = post } }
+
+-- What holds of them -----------------------------------------------------------------------------
+
+pub nothing_in : {A : Type 0} {x : A} → IsIn [] x → ⊥
+nothing_in at = none-some _ at.1
+
+-- nothing is outstanding
+pub none_out : (k : Kind) (core : Core) (x : MessageValue)
+    → message_in nothing (slot_of k core) ≡ Some x → ⊥
+none_out kinds.Down core x e = none-some _ e
+none_out kinds.Start core x e = none-some _ e
+none_out kinds.Off core x e = none-some _ e
+none_out kinds.Reset core x e = none-some _ e
+
+-- a frame is of use where nothing was acknowledged
+pub is_wanted : {b : BoardValue} {m : Machine} {x : MessageValue} → IsOut m x → m.acks ≡ []
+    → (IsSpent b (values_of m.control) x → ⊥) → IsWanted b m x
+is_wanted out none brings = record {
+  out = out;
+  unended = λ e. nothing_in (subst (λ acks. IsIn acks e.0) none e.1.0);
+  brings = brings;
+}
+
+-- nothing is under way where none is in the mailbox or at a gate
+pub is_lost : {m : Machine} {x : MessageValue} → m.mail ≡ [] → m.acks ≡ []
+    → (gate_in m.control.gates x.core.number).waiting ≡ None → IsLost m x
+is_lost {m} {x} mail acks kept = record {
+  frame = λ u. elim u [
+    | inl at ↦ nothing_in (subst (λ list. IsIn list x) mail at)
+    | inr at ↦ none-some _ (sym kept ∙ at)
+  ];
+  ack = λ e. nothing_in (subst (λ list. IsIn list e.0) acks e.1.0);
+}
+
+-- what is under way is not sent again
+pub sent_once : (b : BoardValue) (m : Machine) (c number : ℕ) (x : MessageValue)
+    → outstanding_in m.firmware number ≡ Some x → IsUnderWay m x
+    → Serves b m (SendAgain c number) → ⊥
+sent_once b m c number x out under s =
+    s.1.1.1.frame (subst (IsUnderWay m) (ap item (sym out ∙ s.1.1.0)) under)
+  where
+    item : Option MessageValue → MessageValue
+    item None = x
+    item (Some y) = y
+
+-- cores run, and the two sides agree
+pub agree : (b : BoardValue) (x : MessageValue) → Agree b (taken b x)
+unfolding playing
+agree b x = record {
+  own = λ c within. refl;
+  system = refl;
+  depths = λ n has. refl;
+  hw = λ n has. refl;
+  off = λ c within. off c;
+  away = λ c within. away c;
+}
+  where
+    off : (c : ℕ) → (seen (taken b x).firmware).phase c ≡ Away
+        → (seen (taken b x).firmware).status c ≡ Off
+    off zero e = absurd (cc)
+    off (suc zero) e = absurd (cc)
+    off (suc (suc zero)) e = absurd (cc)
+    off (suc (suc (suc zero))) e = absurd (cc)
+    off (suc (suc (suc (suc c)))) e = refl
+
+    away : (c : ℕ) → (seen (taken b x).firmware).status c ≡ Off
+        → (seen (taken b x).firmware).phase c ≡ Away
+    away zero e = absurd (cc)
+    away (suc zero) e = absurd (cc)
+    away (suc (suc zero)) e = absurd (cc)
+    away (suc (suc (suc zero))) e = absurd (cc)
+    away (suc (suc (suc (suc c)))) e = refl

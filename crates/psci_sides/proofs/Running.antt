@@ -1,0 +1,100 @@
+-- Each run of a machine is seen by a true run of a port.
+use Rattle.std.proofs.Common.{◌∷◌, ◌++◌, [], List, refl}
+use Rattle.psci_board.specs.Board.{BoardValue}
+use Rattle.psci_fw.specs.Seen.{FirmwareValue}
+use Rattle.psci_control.specs.ControlSide.{ControlValue}
+use Rattle.psci_control.proofs.Sides.{first_side}
+use Rattle.psci_port.specs.Port.{Act, state}
+use Rattle.psci_sides.specs.Machine.{Machine, cold}
+use Rattle.psci_sides.specs.Steps.{BeginCall, BeginEntry, Carry, CutPower, DeliverKept, DeliverMail}
+use Rattle.psci_sides.specs.Steps.{EndCall, GiveLock, Hear, IsCold, IsRun, KeepBack, LookAtDoor}
+use Rattle.psci_sides.specs.Steps.{May}
+use Rattle.psci_sides.specs.Steps.{RebootAll, ResetCore, RestartAll, SendAgain, ServeDoor, Stand}
+use Rattle.psci_sides.specs.Steps.{Step}
+use Rattle.psci_sides.specs.Steps.{TakeAck, TakeLock, WakeUp, ArmCore, SleepCore, RouseCore}
+use Rattle.psci_sides.specs.Steps.{RiseCore, TurnCore, machine}
+use Rattle.psci_sides.specs.Seen.{AreShown}
+use Rattle.psci_sides.specs.Kept.{EachTakesItsLast}
+use Rattle.psci_sides.proofs.Sound.{takes_last}
+use Rattle.psci_sides.proofs.Locking.{gives_lock, looks, stands_there, takes_lock}
+use Rattle.psci_sides.proofs.Arming.{arms_there, rouses_there, sleeps_there, turns_there}
+use Rattle.psci_sides.proofs.Rising.{rises_there}
+use Rattle.psci_sides.proofs.Serving.{carries, cuts_power, hears, keeps_back, sends_again}
+use Rattle.psci_sides.proofs.Serving.{serves_door}
+use Rattle.psci_sides.proofs.Calling.{begins_call, begins_entry}
+use Rattle.psci_sides.proofs.Returning.{ends}
+use Rattle.psci_sides.proofs.Taking.{takes_ack}
+use Rattle.psci_sides.proofs.Delivering.{delivers, delivers_kept}
+use Rattle.psci_sides.proofs.Waking.{wakes}
+use Rattle.psci_sides.proofs.Resetting.{resets}
+use Rattle.psci_sides.proofs.Restarting.{empty_mail, reboots, restarts}
+use Rattle.psci_sides.proofs.Commanding.{first_core}
+use Rattle.psci_sides.proofs.Given.{Follows, Given, IsSeen}
+
+module _ (b : BoardValue) (given : Given b) where
+  pub follows : (m : Machine) (acts : List Act) → IsSeen b m acts → (x : Step) → May b m x
+      → Follows b m acts x
+  follows m acts seen (TakeLock c) may = takes_lock b given m acts seen c may
+  follows m acts seen (GiveLock c) may = gives_lock b given m acts seen c may
+  follows m acts seen (BeginCall c regs) may = begins_call b given m acts seen c regs may
+  follows m acts seen (BeginEntry c start) may = begins_entry b given m acts seen c start may
+  follows m acts seen (EndCall c g) may = ends b given m acts seen c g may
+  follows m acts seen (TakeAck c ack g) may = takes_ack b given m acts seen c ack g may
+  follows m acts seen (SendAgain c number) may = sends_again b given m acts seen c number may
+  follows m acts seen (LookAtDoor c pending) may = looks b given m acts seen c pending may
+  follows m acts seen (Stand c) may = stands_there b given m acts seen c may
+  follows m acts seen (Hear c) may = hears b given m acts seen c may
+  follows m acts seen (DeliverMail x t f) may = delivers b given m acts seen x t f may
+  follows m acts seen (KeepBack x) may = keeps_back b given m acts seen x may
+  follows m acts seen (DeliverKept c x t f) may = delivers_kept b given m acts seen c x t f may
+  follows m acts seen (WakeUp c t) may = wakes b given m acts seen c t may
+  follows m acts seen (ServeDoor c) may = serves_door b given m acts seen c may
+  follows m acts seen (ResetCore c t) may = resets b given m acts seen c t may
+  follows m acts seen (CutPower level place) may = cuts_power b given m acts seen level place may
+  follows m acts seen (Carry mail made) may = carries b given m acts seen mail made may
+  follows m acts seen (RestartAll f s) may = restarts b given m acts seen f s may
+  follows m acts seen (RebootAll f t) may = reboots b given m acts seen f t may
+  follows m acts seen (ArmCore c) may = arms_there b given m acts seen c may
+  follows m acts seen (SleepCore c) may = sleeps_there b given m acts seen c may
+  follows m acts seen (RouseCore c) may = rouses_there b given m acts seen c may
+  follows m acts seen (RiseCore c t) may = rises_there b given m acts seen c t may
+  follows m acts seen (TurnCore c) may = turns_there b given m acts seen c may
+
+  module _ (f : FirmwareValue) (s : ControlValue) (is : IsCold b f s) where
+    begins_so : IsSeen b (cold b f s) []
+    unfolding state
+    begins_so = record {
+      run = tt;
+      so = tt;
+      tied = record {
+        each = λ c has. first_core c;
+        firmware = given.opens [] f is.firmware.board is.firmware.values;
+        control = first_side b s [] is.control;
+        gates = is.side;
+        lock = refl;
+        mail = empty_mail b s.gates [] is.control.gates;
+        power = record { depth = λ level place. refl; cut = λ level place. refl };
+      };
+    }
+
+    pub run_seen : (steps : List Step) → IsRun b (cold b f s) steps
+        → (acts : List Act) × AreShown b (cold b f s) steps acts
+        × IsSeen b (machine b (cold b f s) steps) acts
+    unfolding machine
+    run_seen [] run = ([], refl, begins_so)
+    run_seen (x ∷ steps) run =
+        let was = run_seen steps run.1 in
+        let next = follows (machine b (cold b f s) steps) was.0 was.2 x run.0 in (
+          next.0 ++ was.0,
+          (next.0, (was.0, (refl, (next.1, was.1)))),
+          next.2,
+        )
+
+    pub run_takes : (steps : List Step) → IsRun b (cold b f s) steps
+        → EachTakesItsLast b (cold b f s) steps
+    run_takes [] run = tt
+    run_takes (x ∷ steps) run =
+        let was = run_seen steps run.1 in (
+          takes_last b given (machine b (cold b f s) steps) was.0 was.2 x run.0,
+          run_takes steps run.1,
+        )

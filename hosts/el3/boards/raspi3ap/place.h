@@ -1,0 +1,40 @@
+/* What stands where on this board, of its `board`, by hosts/el3/boards.py. */
+#define IMAGE 0x18000000
+#define DATA 0x18200000
+#define STACKS 0x18800000
+#define STACK 0x4000
+#define STACKS_END 0x18a00000
+#define GUARD 0x1000
+#define RECORD_START 0x19000000
+#define RECORD_END 0x1c000000
+#define DEVICE_TREE 0x8000000
+#define UART 0x3f215040
+#define FREQUENCY 0x3b9aca0
+#define TCR 0x80803520
+#define AUX 0x3f215000
+#define LOCAL 0x40000000
+#define PM 0x3f100000
+
+#ifdef MAP
+        .balign 4096
+map:
+        .quad   map_1 + 3
+        .quad   map_3 + 3
+        .zero   16
+        .balign 4096
+map_1:
+        entries 192, 0x0, 0x200000, 0x40000000000721
+        entries 1, 0x18000000, 0x200000, 0x781
+        entries 3, 0x18200000, 0x200000, 0x40000000000701
+        .quad   map_2 + 3
+        entries 27, 0x18a00000, 0x200000, 0x40000000000701
+        .zero   2240
+        entries 8, 0x3f000000, 0x200000, 0x40000000000405
+        .balign 4096
+map_2:
+        guarded 128, 0x18801000, 3, 0x40000000000703
+        .balign 4096
+map_3:
+        entries 1, 0x40000000, 0x200000, 0x40000000000405
+        .zero   4088
+#endif

@@ -1,0 +1,176 @@
+/* Tests a guest's power as words where no script of hosts/ comes: numbers of refusals, a load in ever less memory, what
+ * a call writes. What is wanted is written here, by include/psci_guest.h and docs/port/FORMATS.md. */
+#include "pool.h"
+#include "psci_guest.h"
+
+#include <stdio.h>
+#include <stdlib.h>
+#include <string.h>
+
+static int failed;
+
+static void want(const char *what, uint64_t wanted, uint64_t got) {
+    if (wanted != got) {
+        printf("%s: wanted %llu, got %llu\n", what, (unsigned long long)wanted, (unsigned long long)got);
+        failed = 1;
+    }
+}
+
+#define REST " exec 0x40000000-0x40100000 boot 0x40000000 starts 200 lives 2"
+enum { ROUND = 0x5a, FIRMWARE = 103, WORDS = FIRMWARE + 14, CORES = 5, DOMAINS = 13, ROWS = 27, SLOTS = 43 };
+static const char board[] = "(2 2)" REST;
+static struct psci_guest_place guest, other;
+static struct psci_guest_turn turn;
+static uint64_t saved[WORDS];
+
+static void open_guest(struct psci_guest_place *place) {
+    want("an opening", PSCI_OPENED, psci_guest_open(place, (const uint8_t *)board, strlen(board), &turn));
+}
+
+static uint32_t call(struct psci_guest_place *place, uint16_t core, uint64_t x0, uint64_t x1, uint64_t x2) {
+    psci_guest_call(place, core, 1, x0, x1, x2, 7, &turn);
+    return turn.what;
+}
+
+static void must_save(const struct psci_guest_place *place, uint64_t *words) {
+    want("saved", 0, psci_guest_save((struct psci_guest_place *)place, words, WORDS));
+}
+
+static void unchanged(void) {
+    uint64_t now[WORDS];
+    must_save(&guest, now);
+    want("what is kept after a refusal", 0, memcmp(now, saved, sizeof saved));
+}
+
+static uint64_t sum_of(const uint64_t *words, size_t count) {
+    uint64_t sum = 0;
+    for (size_t at = 0; at < count; at++)
+        sum = sum * 0x100000001b3 + words[at];
+    return sum;
+}
+
+/* Loads the words with this one in a place, and with their sums. */
+static uint32_t load_with(size_t at, uint64_t word) {
+    uint64_t changed[WORDS];
+    memcpy(changed, saved, sizeof changed);
+    changed[at] = word;
+    changed[1] = sum_of(changed + 2, FIRMWARE - 2);
+    changed[FIRMWARE + 1] = sum_of(changed + FIRMWARE + 2, WORDS - FIRMWARE - 2);
+    return psci_guest_load(&guest, changed, WORDS);
+}
+
+static void empty_place(void) {
+    uint64_t words[WORDS] = {ROUND};
+    want("an empty place has no words", 0, psci_guest_save_size(&guest));
+    want("an empty place, save", PSCI_NO_FIRMWARE, psci_guest_save(&guest, words, WORDS));
+    want("an empty place, load", PSCI_NO_FIRMWARE, psci_guest_load(&guest, words, WORDS));
+    want("none is written", ROUND, words[0]);
+}
+
+/* Core 3 runs, core 1 was started and went off. */
+static void saving(void) {
+    uint64_t words[WORDS + 1];
+    open_guest(&guest);
+    want("core 3 is started", PSCI_GUEST_TURNED, call(&guest, 0, 0xc4000003, 0x101, 0x40000000));
+    want("core 1 is started", PSCI_GUEST_TURNED, call(&guest, 0, 0xc4000003, 0x1, 0x40001000));
+    want("core 1 goes off", PSCI_GUEST_TURNED, call(&guest, 1, 0x84000002, 0, 0));
+    want("so many words", WORDS, psci_guest_save_size(&guest));
+    memset(words, ROUND, sizeof words);
+    want("a word too few", PSCI_SAVED_LENGTH, psci_guest_save(&guest, words, WORDS - 1));
+    want("a word too many", PSCI_SAVED_LENGTH, psci_guest_save(&guest, words, WORDS + 1));
+    want("none is written", 0x5a5a5a5a5a5a5a5a, words[0]);
+    must_save(&guest, words);
+    want("what stands behind the words", 0x5a5a5a5a5a5a5a5a, words[WORDS]);
+    want("the format", 0x177667370, words[0]);
+    want("the power controller's", 0x16c746370, words[FIRMWARE]);
+    must_save(&guest, saved);
+}
+
+/* Words with a fault, each of whose bits is seen; nothing changes. */
+static void not_loaded(void) {
+    want("no words", PSCI_GUEST_LENGTH, psci_guest_load(&guest, saved, 0));
+    want("a word of the firmware's too few", PSCI_GUEST_LENGTH, psci_guest_load(&guest, saved, FIRMWARE - 1));
+    want("the firmware's alone", PSCI_SAVED_LENGTH, psci_guest_load(&guest, saved, FIRMWARE));
+    want("a word too few", PSCI_SAVED_LENGTH, psci_guest_load(&guest, saved, WORDS - 1));
+    for (size_t at = 0; at < WORDS; at++)
+        for (int bit = 0; bit < 64; bit++) {
+            uint32_t fault = !at ? PSCI_GUEST_FORMAT : at < FIRMWARE ? PSCI_GUEST_SUM
+                : at == FIRMWARE ? PSCI_SAVED_FORMAT : PSCI_SAVED_SUM;
+            saved[at] ^= (uint64_t)1 << bit;
+            want("a bit", fault, psci_guest_load(&guest, saved, WORDS));
+            saved[at] ^= (uint64_t)1 << bit;
+        }
+    want("a life too late", PSCI_GUEST_LIFE, load_with(2, 3));
+    want("neither halting nor not", PSCI_GUEST_MODE, load_with(3, 2));
+    want("of no mode", PSCI_GUEST_MODE, load_with(4, 2));
+    want("a core does nothing", PSCI_GUEST_CORE, load_with(CORES, 9));
+    want("a domain too deep", PSCI_GUEST_DEPTH, load_with(DOMAINS, 4));
+    want("no status", PSCI_GUEST_ROW, load_with(ROWS, 3));
+    want("no opening, and an address", PSCI_GUEST_ROW, load_with(ROWS + 2, 1));
+    want("a message of no kind", PSCI_GUEST_MESSAGE, load_with(SLOTS, 5));
+    want("an opening for a core that runs", PSCI_GUEST_VALUES, load_with(ROWS + 1, 1));
+    want("the controller's life too late", PSCI_SAVED_LIFE, load_with(FIRMWARE + 2, 3));
+    want("a domain of it too deep", PSCI_SAVED_DEPTH, load_with(WORDS - 1, 4));
+    unchanged();
+}
+
+/* The other one goes on as this one does. */
+static void loading(void) {
+    uint64_t words[WORDS];
+    struct psci_guest_turn told;
+    open_guest(&other);
+    want("loaded", 0, psci_guest_load(&other, saved, WORDS));
+    must_save(&other, words);
+    want("saved again", 0, memcmp(words, saved, sizeof saved));
+    call(&guest, 3, 0xc4000001, 0x1010033, 0x40002000);
+    told = turn;
+    call(&other, 3, 0xc4000001, 0x1010033, 0x40002000);
+    want("it goes on", PSCI_GUEST_TURNED, told.what);
+    want("as the other does", 0, memcmp(&told, &turn, sizeof turn));
+    want("loaded once more", 0, psci_guest_load(&other, saved, WORDS));
+    must_save(&other, words);
+    want("it is as before", 0, memcmp(words, saved, sizeof saved));
+    for (int again = 0; again < 1000; again++)
+        want("loaded again and again", 0, psci_guest_load(&other, saved, WORDS));
+    psci_guest_close(&other);
+    psci_guest_close(&guest);
+}
+
+/* With ever less memory a load fails, and changes nothing. */
+static void little_memory(void) {
+    size_t size = 2 * pool_size(4), refused = 0;
+    void *memory = malloc(size);
+    uint64_t words[WORDS];
+    for (size_t given = size; given >= pool_size(4) / 2; given -= 16) {
+        guest = (struct psci_guest_place){0};
+        pool_give(memory, given);
+        if (psci_guest_open(&guest, (const uint8_t *)board, strlen(board), &turn))
+            break;
+        must_save(&guest, words);
+        uint32_t loaded = psci_guest_load(&guest, saved, WORDS);
+        want("little memory", 1, !loaded || loaded == PSCI_NO_MEMORY);
+        want("as much as a guest takes", 1, given != size || !loaded);
+        refused += loaded != 0;
+        if (!loaded)
+            memcpy(words, saved, sizeof saved);
+        uint64_t now[WORDS];
+        must_save(&guest, now);
+        want("what is kept then", 0, memcmp(now, words, sizeof now));
+        psci_guest_close(&guest);
+    }
+    want("some amount is too little", 1, refused > 0);
+    free(memory);
+}
+
+int main(void) {
+    size_t size = 3 * pool_size(4);
+    void *memory = malloc(size);
+    pool_give(memory, size);
+    empty_place();
+    saving();
+    not_loaded();
+    loading();
+    little_memory();
+    free(memory);
+    return failed;
+}
