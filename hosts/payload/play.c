@@ -27,8 +27,8 @@ static void copy4(uint64_t *to, const uint64_t *from) {
     for (int at = 0; at < 4; at++) to[at] = from[at];
 }
 
-/* What a core was at has come about. Where the entries were written before, it comes too late for them, and is
- * written now, in place of a line that says that it was open. */
+/* What a core is at, or was. Where the entries were written before, it comes too late for them, and is written now: a
+ * call in place of the line that says that it is open, which stands there before it is made. */
 static void come_about(struct entry *entry, enum kept kind) {
     __atomic_thread_fence(__ATOMIC_SEQ_CST);
     entry->kind = kind;
@@ -44,7 +44,7 @@ static uint64_t ask_in_storm(uint32_t core, const uint64_t x[4]) {
     copy4(entry->before, x);
     copy4(entry->behind, x);
     entry->begin = tick();
-    entry->kind = KEPT_OPEN;
+    come_about(entry, KEPT_OPEN);
     before_call(core, x);
     entry->lost = conduit_call(entry->behind, machine.is_smc);
     after_call(core, x, entry->behind[0]);
@@ -300,6 +300,6 @@ void exception(uint64_t syndrome, uint64_t address) {
     uint64_t affinity, core = 0;
     __asm__("mrs %0, mpidr_el1" : "=r"(affinity));
     while (core < machine.cores && affinities[core] != (affinity & 0xff00fffffful)) core++;
-    line_alone("fault", (const uint64_t[]){core, syndrome, address}, 3);
+    ALONE("fault", core, syndrome, address);
     for (;;) __asm__("wfi");
 }

@@ -97,16 +97,24 @@ struct entry *new_entry(void) {
     return &kept[at];
 }
 
-void write_entry(struct entry *it) {
+/* Under the lock, so that who comes to it second finds its line written, and not about to be: the life may end before. */
+static void write_kept(struct entry *it) {
     const uint64_t *x = it->before, *y = it->behind;
     uint32_t kind = it->kind;
-    if (__atomic_exchange_n(&it->written, kind, __ATOMIC_SEQ_CST) == kind) return;
+    if (it->written == kind) return;
+    it->written = kind;
     if (kind == KEPT_CALL)
-        LINE("call", it->core, it->number, it->begin, it->end, 1, x[0], x[1], x[2], x[3], y[0],
-             y[1], y[2], y[3], it->lost);
-    if (kind == KEPT_OPEN)
-        LINE("open", it->core, it->number, it->begin, x[0], x[1], x[2], x[3]);
-    if (kind == KEPT_ENTER) LINE("enter", it->core, it->number, it->end, x[0], x[1]);
+        ALONE("call", it->core, it->number, it->begin, it->end, 1, x[0], x[1], x[2], x[3], y[0],
+              y[1], y[2], y[3], it->lost);
+    else if (kind == KEPT_OPEN)
+        ALONE("open", it->core, it->number, it->begin, x[0], x[1], x[2], x[3]);
+    else ALONE("enter", it->core, it->number, it->end, x[0], x[1]);
+}
+
+void write_entry(struct entry *it) {
+    take();
+    write_kept(it);
+    give();
 }
 
 void write_entries(void) {

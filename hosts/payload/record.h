@@ -9,10 +9,12 @@ void line(const char *kind, const uint64_t *numbers, uint32_t many);
 void line_alone(const char *kind, const uint64_t *numbers, uint32_t many);
 /* Writes how many lines there were so far, and the sum of their texts: before what may end the life. */
 void line_told(void);
-#define LINE(kind, ...) \
+#define LINE(kind, ...) NUMBERS(line, kind, __VA_ARGS__)
+#define ALONE(kind, ...) NUMBERS(line_alone, kind, __VA_ARGS__)
+#define NUMBERS(writes, kind, ...) \
     do { \
         const uint64_t numbers_[] = {__VA_ARGS__}; \
-        line(kind, numbers_, sizeof numbers_ / sizeof *numbers_); \
+        writes(kind, numbers_, sizeof numbers_ / sizeof *numbers_); \
     } while (0)
 
 /* In a storm lines are kept in memory, and written at its end: else writing them would be the

@@ -188,6 +188,15 @@ judged_ended() {
     fi
 }
 
+# what a storm has kept is in the record as its life ends, also where a core still waits to write it
+judged_lines() {
+    printf 'psci: %s .\n' 'open 2 3 4 84000002 0 0 0' 'call 1 5 6 7 1 c4000003 2 0 0 0 0 0 0 0' \
+        'open 0 0 9 84000008 0 0 0' > "$work/lines"
+    gcc -Wall -Werror -o "$work/kept-lines" tests/hosts/programs/kept-lines.c > "$work/said" 2>&1 &&
+        "$work/kept-lines" | grep . > "$work/out"
+    answers "the lines that the payload has kept"
+}
+
 # QEMU's own firmware, asked now: the groups that do not hang on how its threads ran
 judged_live() {
     local tool profile
