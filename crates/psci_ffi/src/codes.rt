@@ -1,8 +1,8 @@
 //! The numbers that C is answered.
 
-ghost use Rattle.std.specs.Prelude.{◌≡◌};
+ghost use Rattle.std.specs.Prelude.{◌≡◌, ◌<◌};
 ghost use Rattle.psci_ffi.specs.Codes.{cause_said, frame_code, opened_said, refusal, status_code};
-ghost use Rattle.psci_ffi.specs.Codes.{hw_number, taken_code};
+ghost use Rattle.psci_ffi.specs.Codes.{hw_number, no_firmware, taken_code};
 
 use psci_board::BoardFault;
 use psci_fw::{Cause, FwFault, Hw, Status, Taken};
@@ -25,7 +25,8 @@ pub const NOT_A_MESSAGE: u32 = 42;
 
 /// What came of an opening: 0, or the number of the board text's fault, or 8 for want of memory.
 pub fn opened_code(opened: Result<(), BoardFault>) -> u32
-    ensures { opened_said result ≡ opened }
+    ensures said { opened_said result ≡ opened }
+    ensures low { result < no_firmware }
 {
     match opened {
         Ok(()) => 0,

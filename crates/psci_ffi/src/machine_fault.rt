@@ -3,6 +3,7 @@
 ghost use Rattle.std.specs.Prelude.{◌≡◌};
 ghost use Rattle.psci_ffi.specs.MachineCodes.{machine_said};
 
+use crate::codes::opened_code;
 use psci_board::BoardFault;
 use psci_platform::PlatformFault;
 
@@ -26,14 +27,7 @@ pub fn machine_code(opened: Result<(), MachineFault>) -> u32
 {
     match opened {
         Ok(()) => 0,
-        Err(MachineFault::Board(BoardFault::Grammar)) => 1,
-        Err(MachineFault::Board(BoardFault::Uneven)) => 2,
-        Err(MachineFault::Board(BoardFault::TooWide)) => 3,
-        Err(MachineFault::Board(BoardFault::TooManyCores)) => 4,
-        Err(MachineFault::Board(BoardFault::BadRange)) => 5,
-        Err(MachineFault::Board(BoardFault::BadBoot)) => 6,
-        Err(MachineFault::Board(BoardFault::BadLimit)) => 7,
-        Err(MachineFault::Board(BoardFault::Memory)) => 8,
+        Err(MachineFault::Board(fault)) => opened_code(Err(fault)),
         Err(MachineFault::Room) => NO_ROOM,
         Err(MachineFault::Description(PlatformFault::WrongCount)) => 65,
         Err(MachineFault::Description(PlatformFault::BadMpidr)) => 66,
