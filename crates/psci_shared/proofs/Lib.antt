@@ -4,11 +4,8 @@ pub mod BookRows
 pub mod CallRows
 pub mod ChangeRows
 pub mod Crossing
-pub mod CtlAgreeRows
 mod CtlAnsweredRows
 pub mod CtlCallRows
-pub mod CtlHistories
-mod CtlTiedRows
 pub mod Histories
 pub mod OwnCalls
 pub mod Placed

@@ -10,10 +10,10 @@ use Rattle.psci_messages.specs.declared.taken.Taken.TheVariants as takens
 use Rattle.psci_status.specs.Lists.{Item}
 use Rattle.psci_shared.specs.Entries.{FwEntry, FwItem}
 use Rattle.psci_shared.specs.declared.fault.CallFault.TheVariants.{BookFull, Fw}
-use Rattle.psci_shared.specs.Answered.{Fill, IsAnswered, IsAnsweredAfter, IsAnsweredFault, IsFull}
-use Rattle.psci_shared.specs.Books.{BookView, entry, history_of}
-use Rattle.psci_shared.specs.Locked.{IsTurnedAway}
+use Rattle.psci_shared.specs.Answered.{IsAnswered, IsAnsweredAfter, IsAnsweredFault}
+use Rattle.psci_shared.specs.Books.{BookView, IsTold, entry}
 use Rattle.psci_shared.specs.Passes.{PassView}
+use Rattle.psci_shared.specs.Room.{Fill, IsFull, IsTurnedAway}
 use Rattle.psci_shared.specs.Views.{item, told}
 use Rattle.psci_shared.specs.Writing.{AllLast, Stand}
 use Rattle.psci_shared.proofs.AnsweredRows.{accepted, booted, boots, computing, enters}
@@ -148,11 +148,11 @@ first_is_illegal h = eqb-false 1 4 refl (ap kind h.0.1.0)
 abbrev told_pass : PassView
 told_pass = told (fresh 1)
 
-full_with_two : IsFull board 2 told_pass
+full_with_two : IsFull (IsTold board) 2 told_pass
 unfolding computing
 full_with_two = (refl, (twice, ((refl, (refl, tt)), refl)))
 
-full_without_room : IsFull board 0 told_pass
+full_without_room : IsFull (IsTold board) 0 told_pass
 unfolding computing
 full_without_room = (refl, ([], (tt, refl)))
 
@@ -161,7 +161,8 @@ unfolding computing
 so_the_book_was_full = (refl, (twice, ((refl, (refl, tt)), refl)))
 
 -- there is room for one more, or there was for one less; the entries are not legal
-do_not_fill : ¬ (Fill board 3 twice) × ¬ (Fill board 1 twice) × ¬ (Fill board 1 (early ∷ []))
+do_not_fill : ¬ (Fill (IsTold board) 3 twice) × ¬ (Fill (IsTold board) 1 twice)
+    × ¬ (Fill (IsTold board) 1 (early ∷ []))
 unfolding computing
 do_not_fill = (
   λ h. eqb-false 2 3 refl h.1,
@@ -170,7 +171,7 @@ do_not_fill = (
 )
 
 -- nobody told the pass; it was told before, and not by this call
-not_told : ¬ (IsFull board 2 (fresh 1))
+not_told : ¬ (IsFull (IsTold board) 2 (fresh 1))
     × ¬ (IsAnsweredFault board 2 told_pass (fresh 1) version BookFull)
 not_told = (λ h. false≢true h.0, λ h. false≢true h.0)
 
@@ -178,15 +179,15 @@ abbrev book_of : ℕ → BookView
 book_of room = record { entries = twice; room = room }
 
 -- what a call leaves then; the pass is told, the book stays, and it was full
-turned_away : IsTurnedAway board 2 (book_of 2) (book_of 2) (fresh 1)
+turned_away : IsTurnedAway (IsTold board) 2 (book_of 2) (book_of 2) (fresh 1)
     (record (fresh 1) { told_full = true })
 unfolding computing
 turned_away = (refl, refl, refl, (refl, (refl, tt)))
 
 turned_away_otherwise :
-    ¬ (IsTurnedAway board 3 (book_of 3) (book_of 3) (fresh 1)
+    ¬ (IsTurnedAway (IsTold board) 3 (book_of 3) (book_of 3) (fresh 1)
     (record (fresh 1) { told_full = true }))
-    × ¬ (IsTurnedAway board 2 (book_of 2) (book_of 1) (fresh 1)
+    × ¬ (IsTurnedAway (IsTold board) 2 (book_of 2) (book_of 1) (fresh 1)
     (record (fresh 1) { told_full = true }))
 turned_away_otherwise = (
   λ h. eqb-false 2 3 refl h.2,

@@ -7,6 +7,7 @@ use Rattle.psci_fw.specs.psci_fw_spec.declared.reply.FwReply.{FwReply}
 use Rattle.psci_fw.specs.psci_fw_spec.Answer.{answer}
 use Rattle.psci_fw.specs.psci_fw_spec.Exchange.{FwExchange}
 use Rattle.psci_fw.specs.psci_fw_spec.History.{values_of}
+use Rattle.psci_fw.specs.psci_fw_spec.Legal.{IsLegal}
 use Rattle.psci_shared.specs.Entries.{FwEntry}
 use Rattle.psci_shared.specs.Views.{AnyBook}
 
@@ -26,6 +27,10 @@ exchange_of e = record { core = e.core.number; call = e.call; reply = e.reply }
 -- the history of a book, the last call first
 unfoldable pub history_of : List FwEntry → List FwExchange
 history_of entries = map exchange_of (reverse entries)
+
+-- they tell a legal history: each reply is the answer after the entries before it
+abbrev pub IsTold : BoardValue → List FwEntry → Type 0
+IsTold b entries = IsLegal b (history_of entries)
 
 -- the one reply to a call after these entries
 abbrev pub answer_after : BoardValue → List FwEntry → ℕ → FwCall → FwReply

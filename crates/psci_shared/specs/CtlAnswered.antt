@@ -1,5 +1,5 @@
 -- How a call through a pass was answered.
-use Rattle.std.specs.Prelude.{◌≡◌, ℕ, List, [], ◌∷◌, ◌++◌, length, true}
+use Rattle.std.specs.Prelude.{◌≡◌, List, [], ◌∷◌, ◌++◌, length}
 use Rattle.psci_board.specs.Board.{BoardValue}
 use Rattle.psci_ctl.specs.psci_ctl_spec.declared.call.CtlCall.{CtlCall}
 use Rattle.psci_ctl.specs.psci_ctl_spec.declared.reply.CtlReply.{CtlReply}
@@ -22,12 +22,3 @@ IsAnsweredAfter b entries p p' call reply =
 abbrev pub IsAnswered : BoardValue → PassView → PassView → CtlCall → CtlReply → Type 0
 IsAnswered b p p' call reply =
     (entries : List CtlEntry) × IsAnsweredAfter b entries p p' call reply
-
--- these entries fill a book of that room: they are as many, and their history is legal
-abbrev pub Fill : BoardValue → ℕ → List CtlEntry → Type 0
-Fill b room entries = IsLegal b (history_of entries) × (length entries ≡ room)
-
--- the book was full: the pass has it from the lock, and there are entries that fill one. As long as
--- a pass was told so, the book is full that it is gathered with, or fails to be
-abbrev pub IsFull : BoardValue → ℕ → PassView → Type 0
-IsFull b room p = (p.told_full ≡ true) × ((entries : List CtlEntry) × Fill b room entries)

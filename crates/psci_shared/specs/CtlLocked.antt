@@ -5,7 +5,7 @@ use Rattle.psci_ctl.specs.psci_ctl_spec.Legal.{IsLegal, legal_reply}
 use Rattle.psci_ctl.specs.psci_ctl_spec.declared.call.CtlCall.{CtlCall}
 use Rattle.psci_ctl.specs.psci_ctl_spec.declared.reply.CtlReply.{CtlReply}
 use Rattle.psci_shared.specs.CtlEntries.{CtlEntry}
-use Rattle.psci_shared.specs.Views.{called, entered, item, told}
+use Rattle.psci_shared.specs.Views.{called, entered, item}
 use Rattle.psci_shared.specs.CtlBooks.{BookView, entry, history_of}
 use Rattle.psci_shared.specs.CtlPasses.{Fits, PassView}
 
@@ -19,10 +19,4 @@ abbrev pub IsEntered : BoardValue → ℕ → BookView → BookView → PassView
 IsEntered b ticket book book' p p' call reply =
     (book' ≡ entered book (entry ticket call reply))
     × (p' ≡ called p (item (length book.entries) call reply) tt)
-    × IsLegal b (history_of book.entries)
-
--- the book of a legal history is full: it stays as it is, and the pass is told
-abbrev pub IsTurnedAway : BoardValue → ℕ → BookView → BookView → PassView → PassView → Type 0
-IsTurnedAway b room book book' p p' =
-    (book' ≡ book) × (p' ≡ told p) × (length book.entries ≡ room)
     × IsLegal b (history_of book.entries)

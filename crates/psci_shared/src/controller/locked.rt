@@ -2,12 +2,14 @@
 
 ghost use Rattle.std.specs.Prelude.{◌≡◌, [], length, IfOk, OnErr};
 ghost use Rattle.psci_ctl.specs.psci_ctl_spec.Legal.{IsCall};
-ghost use Rattle.psci_shared.specs.CtlLocked.{IsEntered, IsReply, IsTurnedAway};
+ghost use Rattle.psci_shared.specs.CtlBooks.{IsTold};
+ghost use Rattle.psci_shared.specs.CtlLocked.{IsEntered, IsReply};
+ghost use Rattle.psci_shared.specs.Room.{IsTurnedAway};
 ghost use Rattle.psci_shared.specs.Told.{IsTotal};
 
 use crate::controller::book::CtlBook;
 use crate::controller::entry::{CtlItem, CtlPass};
-use crate::{BookFull, Named, Tally};
+use crate::{BookFull, BooksOf, GatherFaultOf, Named, Tally};
 use psci_ctl::{CtlCall, CtlReply};
 
 /// The power controller with its book, and the ledger, which counts the entries, and each pass that
@@ -33,8 +35,8 @@ impl<N: Named> CtlLocked<N> {
         ensures reply { IfOk result (λ reply. IsReply N.board self.old.book.entries call reply) }
         ensures entered { IfOk result (λ reply. IsEntered N.board ticket self.old.book
             self.new.book pass.old pass.new call reply) }
-        ensures full { OnErr result (IsTurnedAway N.board N.room self.old.book self.new.book
-            pass.old pass.new) }
+        ensures full { OnErr result (IsTurnedAway (IsTold N.board) N.room self.old.book
+            self.new.book pass.old pass.new) }
     {
         let CtlLocked { book, tally } = self;
         let place = tally.next_place(book.len(), book.room(), pass)?;
@@ -45,6 +47,12 @@ impl<N: Named> CtlLocked<N> {
         Ok(reply)
     }
 }
+
+/// All that a power controller was asked: each place of the book stands in one pass.
+pub type CtlBooks<N> = BooksOf<CtlBook<N>, CtlPass<N>>;
+
+/// Why passes were not gathered, with all that was handed in.
+pub type CtlGatherFault<N> = GatherFaultOf<CtlLocked<N>, (), CtlPass<N>>;
 
 /// What the lock of a new power controller guards.
 pub(crate) fn locked_of<N: Named>(book: CtlBook<N>, tally: Tally<N>) -> CtlLocked<N>
