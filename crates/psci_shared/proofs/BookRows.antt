@@ -1,6 +1,6 @@
 -- Worked examples of books: the reply after entries, what passes have seen of them, which entries
 -- are told, and room. In life 2 the boot core has entered, and core 1 is OFF.
-use Rattle.std.proofs.Common.{◌≡◌, inl, inr, ℕ, zero, suc, ◌<◌, ◌≤◌, List, [], ◌∷◌, pos, false}
+use Rattle.std.proofs.Common.{inl, inr, ℕ, zero, suc, ◌<◌, ◌≤◌, List, [], ◌∷◌, pos, false}
 use Rattle.std.proofs.Common.{refl, ap, arith, None}
 use Rattle.psci_fw.specs.psci_fw_spec.Answer.{answer}
 use Rattle.psci_fw.specs.psci_fw_spec.After.{after}

@@ -38,7 +38,6 @@ use Rattle.psci_fw_spec.proofs.call.FwCall.TheSendSync as call
 use Rattle.psci_fw_spec.proofs.reply.FwReply.TheSendSync as reply
 use Rattle.psci_shared.proofs.controller.locked.CtlLocked.TheSendSync as controller
 use Rattle.psci_shared.proofs.book.BookOf.TheSendSync as books
-use Rattle.psci_shared.proofs.entry.Entry.TheSendSync as entry
 use Rattle.psci_shared.proofs.pass.PassOf.TheSendSync as passes
 use Rattle.psci_shared.proofs.seen.Seen.TheSendSync as seen
 use Rattle.psci_shared.proofs.tickets.Tickets.TheSendSync as tickets
@@ -87,7 +86,6 @@ module _ (N : RattleType) (named : Named.Ghosts N.Denot) (ledger : Ledger.Ghosts
         search (
           books.the_send,
           firmware,
-          entry.the_send,
           core_at.the_send,
           call.the_send,
           reply.the_send,

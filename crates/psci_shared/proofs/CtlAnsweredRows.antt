@@ -14,12 +14,13 @@ use Rattle.psci_ctl.specs.psci_ctl_spec.psci_messages.declared.kind.Kind.TheVari
 use Rattle.psci_ctl.specs.psci_ctl_spec.psci_messages.declared.start.Cause.TheVariants as causes
 use Rattle.psci_shared.specs.declared.fault.PassFault.TheVariants.{NoCore, TooMany, Memory}
 use Rattle.psci_shared.specs.CtlEntries.{CtlEntry, CtlItem}
-use Rattle.psci_shared.specs.CtlAnswered.{IsAnswered, IsAnsweredAfter}
-use Rattle.psci_shared.specs.CtlBooks.{IsTold, entry, history_of}
-use Rattle.psci_shared.specs.Views.{first, item}
+use Rattle.psci_shared.specs.CtlAnswered.{IsAnswered, IsAnsweredAfter, IsFull}
+use Rattle.psci_shared.specs.CtlBooks.{BookView, IsTold, entry, history_of}
+use Rattle.psci_shared.specs.CtlLocked.{IsTurnedAway}
+use Rattle.psci_shared.specs.Views.{first, item, told}
 use Rattle.psci_shared.specs.CtlPasses.{IsNoPass, PassView}
 use Rattle.psci_shared.proofs.TwoCores.{board}
-use Rattle.std.proofs.lemmas.Bool.{eqb-false}
+use Rattle.std.proofs.lemmas.Bool.{eqb-false, false≢true}
 
 -- what an example unfolds to compute a reply
 unfoldable computing : Unit {0}
@@ -179,6 +180,39 @@ not_so = (
   λ h. eqb-false 2 1 refl (ap number_in h.0),
   λ h. eqb-false 98 1 refl (ap number_in h.0),
   λ h. let e : 2 < 2 = h.1 in omega arith,
+)
+
+-- A book that is full ----------------------------------------------------------------------------
+
+full_with_two : IsFull board 2 (told (pass []))
+unfolding computing
+full_with_two = (refl, (entries, ((refl, omega arith, (refl, omega arith, tt)), refl)))
+
+full_without_room : IsFull board 0 (told (pass []))
+unfolding computing
+full_without_room = (refl, ([], (tt, refl)))
+
+not_told : IsFull board 2 (pass []) → ⊥
+not_told h = false≢true h.0
+
+-- what a call leaves then
+abbrev full_book : BookView
+full_book = record { entries = entries; room = 2 }
+
+turned_away : IsTurnedAway board 2 full_book full_book (pass []) (told (pass []))
+unfolding computing
+turned_away = (refl, refl, refl, (refl, omega arith, (refl, omega arith, tt)))
+
+-- there is room for one more; the entry is not legal
+abbrev illegal_book : BookView
+illegal_book = record { entries = resets 2 ∷ []; room = 1 }
+
+turned_away_otherwise : ¬ (IsTurnedAway board 3 full_book full_book (pass []) (told (pass [])))
+    × ¬ (IsTurnedAway board 1 illegal_book illegal_book (pass []) (told (pass [])))
+unfolding computing
+turned_away_otherwise = (
+  λ h. eqb-false 2 3 refl h.2,
+  λ h. eqb-false 2 1 refl (ap number_in h.3.0),
 )
 
 -- Passes -----------------------------------------------------------------------------------------

@@ -6,6 +6,7 @@ pub mod ChangeRows
 pub mod Crossing
 mod CtlAnsweredRows
 pub mod CtlCallRows
+mod HasRows
 pub mod Histories
 pub mod OwnCalls
 pub mod Placed

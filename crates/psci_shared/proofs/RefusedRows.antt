@@ -1,6 +1,6 @@
 -- Worked examples of calls through a pass that were refused or came first, and of a book that is
 -- full.
-use Rattle.std.proofs.Common.{◌≡◌, inl, inr, ℕ, List, [], ◌∷◌, length, refl, ap}
+use Rattle.std.proofs.Common.{inl, inr, ℕ, List, [], ◌∷◌, length, refl, ap}
 use Rattle.std.proofs.Common.{arith, true}
 use Rattle.psci_fw.specs.psci_fw_spec.declared.fault.FwFault.TheVariants.{NoLife, NotRunning}
 use Rattle.psci_fw.specs.psci_fw_spec.declared.reply.FwReply.{FwReply}
@@ -10,10 +10,11 @@ use Rattle.psci_messages.specs.declared.taken.Taken.TheVariants as takens
 use Rattle.psci_status.specs.Lists.{Item}
 use Rattle.psci_shared.specs.Entries.{FwEntry, FwItem}
 use Rattle.psci_shared.specs.declared.fault.CallFault.TheVariants.{BookFull, Fw}
-use Rattle.psci_shared.specs.Answered.{IsAnswered, IsAnsweredAfter, IsAnsweredFault}
+use Rattle.psci_shared.specs.Answered.{IsAnswered, IsAnsweredAfter, IsAnsweredFault, IsFull}
 use Rattle.psci_shared.specs.Books.{BookView, IsTold, entry}
+use Rattle.psci_shared.specs.Locked.{IsTurnedAway}
 use Rattle.psci_shared.specs.Passes.{PassView}
-use Rattle.psci_shared.specs.Room.{Fill, IsFull, IsTurnedAway}
+use Rattle.psci_shared.specs.Room.{Fill}
 use Rattle.psci_shared.specs.Views.{item, told}
 use Rattle.psci_shared.specs.Writing.{AllLast, Stand}
 use Rattle.psci_shared.proofs.AnsweredRows.{accepted, booted, boots, computing, enters}
@@ -148,11 +149,11 @@ first_is_illegal h = eqb-false 1 4 refl (ap kind h.0.1.0)
 abbrev told_pass : PassView
 told_pass = told (fresh 1)
 
-full_with_two : IsFull (IsTold board) 2 told_pass
+full_with_two : IsFull board 2 told_pass
 unfolding computing
 full_with_two = (refl, (twice, ((refl, (refl, tt)), refl)))
 
-full_without_room : IsFull (IsTold board) 0 told_pass
+full_without_room : IsFull board 0 told_pass
 unfolding computing
 full_without_room = (refl, ([], (tt, refl)))
 
@@ -171,7 +172,7 @@ do_not_fill = (
 )
 
 -- nobody told the pass; it was told before, and not by this call
-not_told : ¬ (IsFull (IsTold board) 2 (fresh 1))
+not_told : ¬ (IsFull board 2 (fresh 1))
     × ¬ (IsAnsweredFault board 2 told_pass (fresh 1) version BookFull)
 not_told = (λ h. false≢true h.0, λ h. false≢true h.0)
 
@@ -179,15 +180,15 @@ abbrev book_of : ℕ → BookView
 book_of room = record { entries = twice; room = room }
 
 -- what a call leaves then; the pass is told, the book stays, and it was full
-turned_away : IsTurnedAway (IsTold board) 2 (book_of 2) (book_of 2) (fresh 1)
+turned_away : IsTurnedAway board 2 (book_of 2) (book_of 2) (fresh 1)
     (record (fresh 1) { told_full = true })
 unfolding computing
 turned_away = (refl, refl, refl, (refl, (refl, tt)))
 
 turned_away_otherwise :
-    ¬ (IsTurnedAway (IsTold board) 3 (book_of 3) (book_of 3) (fresh 1)
+    ¬ (IsTurnedAway board 3 (book_of 3) (book_of 3) (fresh 1)
     (record (fresh 1) { told_full = true }))
-    × ¬ (IsTurnedAway (IsTold board) 2 (book_of 2) (book_of 1) (fresh 1)
+    × ¬ (IsTurnedAway board 2 (book_of 2) (book_of 1) (fresh 1)
     (record (fresh 1) { told_full = true }))
 turned_away_otherwise = (
   λ h. eqb-false 2 3 refl h.2,

@@ -10,7 +10,7 @@ use Rattle.psci_shared.specs.declared.fault.CallFault.{CallFault}
 use Rattle.psci_shared.specs.declared.fault.CallFault.TheVariants.{BookFull, Fw}
 use Rattle.psci_shared.specs.Books.{IsTold, answer_after, entry, history_of}
 use Rattle.psci_shared.specs.Passes.{PassView}
-use Rattle.psci_shared.specs.Room.{IsFull}
+use Rattle.psci_shared.specs.Room.{IsFullOf}
 use Rattle.psci_shared.specs.Views.{item}
 use Rattle.psci_shared.specs.Writing.{AllLast, Stand}
 
@@ -31,7 +31,11 @@ abbrev pub IsAnswered : BoardValue → PassView → PassView → FwCall → FwRe
 IsAnswered b p p' call reply =
     (entries : List FwEntry) × (ticket : ℕ) × IsAnsweredAfter b entries ticket p p' call reply
 
+-- the firmware's book was full
+abbrev pub IsFull : BoardValue → ℕ → PassView → Type 0
+IsFull b room p = IsFullOf (IsTold b) room p
+
 -- so was what the firmware refuses; or the book was full
 abbrev pub IsAnsweredFault : BoardValue → ℕ → PassView → PassView → FwCall → CallFault → Type 0
-IsAnsweredFault b room p p' call BookFull = IsFull (IsTold b) room p'
+IsAnsweredFault b room p p' call BookFull = IsFull b room p'
 IsAnsweredFault b room p p' call (Fw fault) = IsAnswered b p p' call (Fault fault)

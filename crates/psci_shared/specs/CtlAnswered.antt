@@ -1,11 +1,12 @@
 -- How a call through a pass was answered.
-use Rattle.std.specs.Prelude.{◌≡◌, List, [], ◌∷◌, ◌++◌, length}
+use Rattle.std.specs.Prelude.{◌≡◌, ℕ, List, [], ◌∷◌, ◌++◌, length}
 use Rattle.psci_board.specs.Board.{BoardValue}
 use Rattle.psci_ctl.specs.psci_ctl_spec.declared.call.CtlCall.{CtlCall}
 use Rattle.psci_ctl.specs.psci_ctl_spec.declared.reply.CtlReply.{CtlReply}
 use Rattle.psci_ctl.specs.psci_ctl_spec.Legal.{IsLegal, legal_reply}
 use Rattle.psci_shared.specs.CtlEntries.{CtlEntry}
-use Rattle.psci_shared.specs.CtlBooks.{history_of}
+use Rattle.psci_shared.specs.CtlBooks.{IsTold, history_of}
+use Rattle.psci_shared.specs.Room.{IsFullOf}
 use Rattle.psci_shared.specs.Views.{item}
 use Rattle.psci_shared.specs.CtlPasses.{PassView}
 
@@ -22,3 +23,7 @@ IsAnsweredAfter b entries p p' call reply =
 abbrev pub IsAnswered : BoardValue → PassView → PassView → CtlCall → CtlReply → Type 0
 IsAnswered b p p' call reply =
     (entries : List CtlEntry) × IsAnsweredAfter b entries p p' call reply
+
+-- the power controller's book was full
+abbrev pub IsFull : BoardValue → ℕ → PassView → Type 0
+IsFull b room p = IsFullOf (IsTold b) room p

@@ -6,8 +6,9 @@ use Rattle.psci_ctl.specs.psci_ctl_spec.declared.call.CtlCall.{CtlCall}
 use Rattle.psci_ctl.specs.psci_ctl_spec.declared.reply.CtlReply.{CtlReply}
 use Rattle.psci_shared.specs.CtlEntries.{CtlEntry}
 use Rattle.psci_shared.specs.Views.{called, entered, item}
-use Rattle.psci_shared.specs.CtlBooks.{BookView, entry, history_of}
+use Rattle.psci_shared.specs.CtlBooks.{BookView, IsTold, entry, history_of}
 use Rattle.psci_shared.specs.CtlPasses.{Fits, PassView}
+use Rattle.psci_shared.specs.Room.{IsTurnedAwayOf}
 
 -- the reply is the one reply after these entries, and one to such a call
 abbrev pub IsReply : BoardValue → List CtlEntry → CtlCall → CtlReply → Type 0
@@ -20,3 +21,7 @@ IsEntered b ticket book book' p p' call reply =
     (book' ≡ entered book (entry ticket call reply))
     × (p' ≡ called p (item (length book.entries) call reply) tt)
     × IsLegal b (history_of book.entries)
+
+-- the power controller's book is full: it stays as it is, and the pass is told
+abbrev pub IsTurnedAway : BoardValue → ℕ → BookView → BookView → PassView → PassView → Type 0
+IsTurnedAway b room book book' p p' = IsTurnedAwayOf (IsTold b) room book book' p p'

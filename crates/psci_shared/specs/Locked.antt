@@ -14,8 +14,9 @@ use Rattle.psci_shared.specs.declared.done.Done.{Done}
 use Rattle.psci_shared.specs.declared.done.Said.{Said}
 use Rattle.psci_shared.specs.declared.done.Said.TheVariants.{Reacted, Taken}
 use Rattle.psci_shared.specs.Entries.{FwEntry}
-use Rattle.psci_shared.specs.Books.{BookView, answer_after, entry, history_of}
+use Rattle.psci_shared.specs.Books.{BookView, IsTold, answer_after, entry, history_of}
 use Rattle.psci_shared.specs.Passes.{Fits, PassView}
+use Rattle.psci_shared.specs.Room.{IsTurnedAwayOf}
 use Rattle.psci_shared.specs.Views.{called, entered, item}
 use Rattle.psci_shared.specs.Writing.{AllLast, Stand, named_by}
 
@@ -52,3 +53,7 @@ IsEntered b ticket book book' p p' call reply =
     × Stand b book'.entries p'.seen
     × AllLast b book'.entries p'.seen
     × IsLegal b (history_of book.entries)
+
+-- the firmware's book is full: it stays as it is, and the pass is told
+abbrev pub IsTurnedAway : BoardValue → ℕ → BookView → BookView → PassView → PassView → Type 0
+IsTurnedAway b room book book' p p' = IsTurnedAwayOf (IsTold b) room book book' p p'

@@ -15,12 +15,12 @@ Fill IsTold room entries = IsTold entries × (length entries ≡ room)
 
 -- the book was full: the pass has it from the lock, and there are entries that fill one. As long as
 -- a pass was told so, the book is full that it is gathered with, or fails to be
-abbrev pub IsFull : {W S C R : Type 0} → (List (Entry W C R) → Type 0) → ℕ → AnyPass W S C R
+abbrev pub IsFullOf : {W S C R : Type 0} → (List (Entry W C R) → Type 0) → ℕ → AnyPass W S C R
     → Type 0
-IsFull IsTold room p = (p.told_full ≡ true) × ((entries : List _) × Fill IsTold room entries)
+IsFullOf IsTold room p = (p.told_full ≡ true) × ((entries : List _) × Fill IsTold room entries)
 
 -- the book of a legal history is full: it stays as it is, and the pass is told
-abbrev pub IsTurnedAway : {W S C R : Type 0} → (List (Entry W C R) → Type 0) → ℕ → AnyBook W C R
-    → AnyBook W C R → AnyPass W S C R → AnyPass W S C R → Type 0
-IsTurnedAway IsTold room book book' p p' =
+abbrev pub IsTurnedAwayOf : {W S C R : Type 0} → (List (Entry W C R) → Type 0) → ℕ
+    → AnyBook W C R → AnyBook W C R → AnyPass W S C R → AnyPass W S C R → Type 0
+IsTurnedAwayOf IsTold room book book' p p' =
     (book' ≡ book) × (p' ≡ told p) × (length book.entries ≡ room) × IsTold book.entries

@@ -7,7 +7,7 @@ use std::alloc::Global;
 
 /// A machine that answers calls, each by what it was asked and has replied before.
 pub trait Answers: Drop {
-    ghost use Rattle.std.specs.Prelude.{◌≡◌, ◌↔◌, List, [], IfOk, IsTrue};
+    ghost use Rattle.std.specs.Prelude.{◌↔◌, List, [], IfOk, IsTrue};
     ghost use Rattle.psci_fw.specs.psci_board.Board.{BoardValue};
     ghost use Rattle.psci_shared.specs.declared.entry.Entry.{Entry};
     ghost use Rattle.psci_shared.specs.Agree.{IsOf};
@@ -21,16 +21,15 @@ pub trait Answers: Drop {
     /// What is replied.
     type Reply: Drop;
 
-    ghost its_board: { Self → BoardValue };
+    // a machine of this board, which has the values after these entries
+    ghost Has: { BoardValue → Self → List (Entry Self.Core Self.Call Self.Reply) → Type 0 };
 
-    ghost Has: { Self → List (Entry Self.Core Self.Call Self.Reply) → Type 0 };
-
+    // entries that tell a legal history of this board: each reply is that after the ones before it
     ghost IsTold: { BoardValue → List (Entry Self.Core Self.Call Self.Reply) → Type 0 };
 
     /// A machine of this board that was asked nothing.
     fn open(alloc: Global, board: &Board) -> Result<Self, Memory>
-        ensures board { IfOk result (λ m. its_board m ≡ board.now) }
-        ensures nothing { IfOk result (λ m. Has m [] × IsTold board.now []) };
+        ensures { IfOk result (λ m. Has board.now m [] × IsTold board.now []) };
 
     /// Whether the entry is the item's call of this core, with the item's reply.
     fn is_of(

@@ -16,7 +16,7 @@ pub struct BookOf<N: Named, M: Answers> {
 }
 
 impl<N: Named, M: Answers> Model for BookOf<N, M> {
-    ghost use Rattle.std.specs.Prelude.{◌≡◌, length, vec_capacity};
+    ghost use Rattle.std.specs.Prelude.{length, vec_capacity};
     ghost use Rattle.psci_shared.specs.Room.{HasRoom};
     ghost use Rattle.psci_shared.specs.Views.{AnyBook};
 
@@ -25,8 +25,7 @@ impl<N: Named, M: Answers> Model for BookOf<N, M> {
     ghost view = { λ b. record { entries = b.entries.items; room = b.room } };
 
     ghost invariant = { λ b.
-        (M.its_board b.machine ≡ N.board) × M.Has b.machine b.entries.items
-        × M.IsTold N.board b.entries.items
+        M.Has N.board b.machine b.entries.items × M.IsTold N.board b.entries.items
         × HasRoom (length b.entries.items) (vec_capacity b.entries) b.room };
 }
 

@@ -16,10 +16,7 @@ use std::alloc::Global;
 pub type FwBook<N> = BookOf<N, Firmware>;
 
 impl Answers for Firmware {
-    ghost use Rattle.std.specs.Prelude.{◌≡◌};
-    ghost use Rattle.psci_fw.specs.Seen.{seen};
-    ghost use Rattle.psci_fw.specs.psci_fw_spec.History.{values_of};
-    ghost use Rattle.psci_shared.specs.Books.{IsTold, history_of};
+    ghost use Rattle.psci_shared.specs.Books.{Has, IsTold};
 
     type Core = Core;
 
@@ -27,9 +24,7 @@ impl Answers for Firmware {
 
     type Reply = FwReply;
 
-    ghost its_board = { λ f. f.board };
-
-    ghost Has = { λ f entries. seen f ≡ values_of f.board (history_of entries) };
+    ghost Has = { λ b f entries. Has b f entries };
 
     ghost IsTold = { λ b entries. IsTold b entries };
 

@@ -4,9 +4,7 @@ ghost use Rattle.std.specs.Prelude.{◌≡◌, [], ◌∷◌, length, replicate,
 ghost use Rattle.psci_fw.specs.psci_board.Board.{cores};
 ghost use Rattle.psci_fw.specs.psci_fw_spec.declared.status.Status.TheVariants.{Off};
 ghost use Rattle.psci_status.specs.Seats.{table, table_of_writer, written};
-ghost use Rattle.psci_shared.specs.Books.{IsTold};
-ghost use Rattle.psci_shared.specs.Locked.{IsEntered, IsReply};
-ghost use Rattle.psci_shared.specs.Room.{IsTurnedAway};
+ghost use Rattle.psci_shared.specs.Locked.{IsEntered, IsReply, IsTurnedAway};
 ghost use Rattle.psci_shared.specs.Told.{IsTotal};
 ghost use Rattle.psci_shared.specs.Writing.{IsWritten};
 
@@ -51,8 +49,8 @@ impl<N: Named> FwLocked<N> {
             pass.old.core.number call reply) }
         ensures entered { IfOk result (λ reply. IsEntered N.board ticket self.old.book
             self.new.book pass.old pass.new call reply) }
-        ensures full { OnErr result (IsTurnedAway (IsTold N.board) N.room self.old.book
-            self.new.book pass.old pass.new) }
+        ensures full { OnErr result (IsTurnedAway N.board N.room self.old.book self.new.book
+            pass.old pass.new) }
     {
         self.call_of::<FwCall>(words, ticket, pass, call)
     }
@@ -70,8 +68,8 @@ impl<N: Named> FwLocked<N> {
             pass.old.core.number call reply) }
         ensures entered { IfOk result (λ reply. IsEntered N.board ticket self.old.book
             self.new.book pass.old pass.new call reply) }
-        ensures full { OnErr result (IsTurnedAway (IsTold N.board) N.room self.old.book
-            self.new.book pass.old pass.new) }
+        ensures full { OnErr result (IsTurnedAway N.board N.room self.old.book self.new.book
+            pass.old pass.new) }
     {
         let FwLocked {
             book,

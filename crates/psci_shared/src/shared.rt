@@ -9,14 +9,13 @@ ghost use Rattle.psci_fw.specs.psci_fw_spec.declared.reply.FwReply.TheVariants a
 ghost use Rattle.psci_fw.specs.psci_fw_spec.declared.status.Status.TheVariants.{Off};
 ghost use Rattle.psci_status.specs.Seats.{table, table_of_writer, written};
 ghost use Rattle.psci_shared.specs.Entries.{FwEntry};
-ghost use Rattle.psci_shared.specs.Answered.{IsAnswered, IsAnsweredFault};
+ghost use Rattle.psci_shared.specs.Answered.{IsAnswered, IsAnsweredFault, IsFull};
 ghost use Rattle.psci_fw.specs.psci_fw_spec.Legal.{IsLegal};
-ghost use Rattle.psci_shared.specs.Books.{IsTold, history_of};
+ghost use Rattle.psci_shared.specs.Books.{history_of};
 ghost use Rattle.psci_shared.specs.Passes.{Fits, IsAffinity, IsCalled, IsFirst, IsNoPass};
 ghost use Rattle.psci_shared.specs.Passes.{IsRefused};
 ghost use Rattle.psci_shared.specs.Views.{told};
 ghost use Rattle.psci_shared.specs.Polls.{IsPolled};
-ghost use Rattle.psci_shared.specs.Room.{IsFull};
 
 use crate::entry::{BookFull, FwEntry};
 use crate::fault::{CallFault, PassFault};
@@ -181,7 +180,7 @@ impl<'t, N: Named> SharedFirmware<'t, N> {
             IsCalled pass.old pass.new (calls.Take ack) (replies.Taken taken)) }
         ensures answered { IfOk result (λ taken.
             IsAnswered N.board pass.old pass.new (calls.Take ack) (replies.Taken taken)) }
-        ensures full { OnErr result (IsFull (IsTold N.board) N.room pass.new) }
+        ensures full { OnErr result (IsFull N.board N.room pass.new) }
         ensures err { OnErr result (pass.new ≡ told pass.old) }
     {
         match self.call::<R, Ack>(rt, pass, FwCall::Take(ack)) {
@@ -257,7 +256,7 @@ impl<'t, N: Named> SharedFirmware<'t, N> {
         ensures ok { IfOk result (λ reply. IsCalled pass.old pass.new call reply) }
         ensures answered { IfOk result (λ reply.
             IsAnswered N.board pass.old pass.new call reply) }
-        ensures full { OnErr result (IsFull (IsTold N.board) N.room pass.new) }
+        ensures full { OnErr result (IsFull N.board N.room pass.new) }
         ensures fits { IfOk result (λ reply. Fits call reply) }
         ensures err { OnErr result (pass.new ≡ told pass.old) }
     {

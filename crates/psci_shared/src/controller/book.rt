@@ -9,10 +9,7 @@ use std::alloc::Global;
 pub type CtlBook<N> = BookOf<N, Controller>;
 
 impl Answers for Controller {
-    ghost use Rattle.std.specs.Prelude.{◌≡◌};
-    ghost use Rattle.psci_ctl.specs.Seen.{seen};
-    ghost use Rattle.psci_ctl.specs.psci_ctl_spec.History.{values_of};
-    ghost use Rattle.psci_shared.specs.CtlBooks.{IsTold, history_of};
+    ghost use Rattle.psci_shared.specs.CtlBooks.{Has, IsTold};
 
     type Core = ();
 
@@ -20,9 +17,7 @@ impl Answers for Controller {
 
     type Reply = CtlReply;
 
-    ghost its_board = { λ c. c.board };
-
-    ghost Has = { λ c entries. seen c ≡ values_of c.board (history_of entries) };
+    ghost Has = { λ b c entries. Has b c entries };
 
     ghost IsTold = { λ b entries. IsTold b entries };
 

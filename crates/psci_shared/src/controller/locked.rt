@@ -2,9 +2,7 @@
 
 ghost use Rattle.std.specs.Prelude.{◌≡◌, [], length, IfOk, OnErr};
 ghost use Rattle.psci_ctl.specs.psci_ctl_spec.Legal.{IsCall};
-ghost use Rattle.psci_shared.specs.CtlBooks.{IsTold};
-ghost use Rattle.psci_shared.specs.CtlLocked.{IsEntered, IsReply};
-ghost use Rattle.psci_shared.specs.Room.{IsTurnedAway};
+ghost use Rattle.psci_shared.specs.CtlLocked.{IsEntered, IsReply, IsTurnedAway};
 ghost use Rattle.psci_shared.specs.Told.{IsTotal};
 
 use crate::controller::book::CtlBook;
@@ -35,8 +33,8 @@ impl<N: Named> CtlLocked<N> {
         ensures reply { IfOk result (λ reply. IsReply N.board self.old.book.entries call reply) }
         ensures entered { IfOk result (λ reply. IsEntered N.board ticket self.old.book
             self.new.book pass.old pass.new call reply) }
-        ensures full { OnErr result (IsTurnedAway (IsTold N.board) N.room self.old.book
-            self.new.book pass.old pass.new) }
+        ensures full { OnErr result (IsTurnedAway N.board N.room self.old.book self.new.book
+            pass.old pass.new) }
     {
         let CtlLocked { book, tally } = self;
         let place = tally.next_place(book.len(), book.room(), pass)?;

@@ -12,11 +12,10 @@ ghost use Rattle.psci_shared.specs.CtlEntries.{CtlEntry};
 ghost use Rattle.psci_shared.specs.Agree.{Agree};
 ghost use Rattle.psci_shared.specs.Gathers.{IsCause, items_of};
 ghost use Rattle.psci_shared.specs.Places.{AllPlaced};
-ghost use Rattle.psci_shared.specs.Room.{IsFull};
 ghost use Rattle.psci_shared.specs.Told.{FullIfTold};
 ghost use Rattle.psci_shared.specs.Views.{first, told};
-ghost use Rattle.psci_shared.specs.CtlAnswered.{IsAnswered};
-ghost use Rattle.psci_shared.specs.CtlBooks.{IsTold, history_of};
+ghost use Rattle.psci_shared.specs.CtlAnswered.{IsAnswered, IsFull};
+ghost use Rattle.psci_shared.specs.CtlBooks.{history_of};
 ghost use Rattle.psci_shared.specs.CtlPasses.{Fits, IsCalled, IsNoPass};
 
 use crate::controller::book::CtlBook;
@@ -109,7 +108,7 @@ impl<'t, N: Named> SharedController<'t, N> {
             (calls.Deliver message.now) (replies.Delivery delivery)) }
         ensures answered { IfOk result (λ delivery. IsAnswered N.board pass.old pass.new
             (calls.Deliver message.now) (replies.Delivery delivery)) }
-        ensures full { OnErr result (IsFull (IsTold N.board) N.room pass.new) }
+        ensures full { OnErr result (IsFull N.board N.room pass.new) }
         ensures err { OnErr result (pass.new ≡ told pass.old) }
     {
         match self.call(rt, pass, CtlCall::Deliver(message.copy())) {
@@ -132,7 +131,7 @@ impl<'t, N: Named> SharedController<'t, N> {
             (calls.Wake core halted) (replies.Kick kick)) }
         ensures answered { IfOk result (λ kick. IsAnswered N.board pass.old pass.new
             (calls.Wake core halted) (replies.Kick kick)) }
-        ensures full { OnErr result (IsFull (IsTold N.board) N.room pass.new) }
+        ensures full { OnErr result (IsFull N.board N.room pass.new) }
         ensures err { OnErr result (pass.new ≡ told pass.old) }
     {
         match self.call(rt, pass, CtlCall::Wake(core, halted)) {
@@ -154,7 +153,7 @@ impl<'t, N: Named> SharedController<'t, N> {
             (calls.Reset core) (replies.Kick kick)) }
         ensures answered { IfOk result (λ kick. IsAnswered N.board pass.old pass.new
             (calls.Reset core) (replies.Kick kick)) }
-        ensures full { OnErr result (IsFull (IsTold N.board) N.room pass.new) }
+        ensures full { OnErr result (IsFull N.board N.room pass.new) }
         ensures err { OnErr result (pass.new ≡ told pass.old) }
     {
         match self.call(rt, pass, CtlCall::Reset(core)) {
@@ -213,8 +212,7 @@ impl<'t, N: Named> SharedController<'t, N> {
         ensures ok { IfOk result (λ reply. IsCalled pass.old pass.new call reply) }
         ensures answered { IfOk result (λ reply. IsAnswered N.board pass.old pass.new call reply) }
         ensures fits { IfOk result (λ reply. Fits call reply) }
-        ensures full { OnErr result
-            (IsFull (IsTold N.board) N.room pass.new × (pass.new ≡ told pass.old)) }
+        ensures full { OnErr result (IsFull N.board N.room pass.new × (pass.new ≡ told pass.old)) }
     {
         let mut locked = self.locked.lock(rt);
         let ticket = self.tickets.draw();
