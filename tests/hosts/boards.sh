@@ -92,7 +92,7 @@ on_board() {
     live "$1-cut" --board "$1" --reset-at "guest: core 2 off" each
     [ "$1" != sbsa-ref ] || cores_of_sbsa
     lists_on_board "$1"
-    lists_on_board "$1" tests/program/lists/beats.list tests/program/lists/pending.list
+    lists_on_board "$1" tests/program/lists/{beats,pending,second-life}.list
     board_faults "$1"
 }
 

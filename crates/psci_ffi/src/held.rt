@@ -3,8 +3,8 @@
 use crate::asked::{GivenAsked, asked_shown, nothing_asked};
 use crate::common::{Common, share};
 use crate::naming::Naming;
-use psci_board::{Board, Core, Memory, Node};
-use psci_fw::{FwFault, Hw, Reaction, Regs, Start, Status, Taken};
+use psci_board::{Board, Core, Memory};
+use psci_fw::{Firmware, FwFault, Reaction, Regs, Start, Taken};
 use psci_link::{Heading, ack_in, heading_on};
 use psci_messages::{Ack, Message};
 use psci_platform::Platform;
@@ -41,12 +41,10 @@ impl Model for Held {
 
 ghost use Rattle.std.specs.Prelude.{◌≡◌, ℕ, IfOk, OnErr, option_map};
 ghost use Rattle.psci_fw.specs.Reactions.{reply_in, sent_from};
-ghost use Rattle.psci_fw.specs.Seen.{hw_shown, life_shown, seen, status_shown};
+ghost use Rattle.psci_fw.specs.Seen.{seen};
 ghost use Rattle.psci_fw_spec.specs.Answer.{answer};
-ghost use Rattle.psci_fw_spec.specs.Phases.{is_running};
 ghost use Rattle.psci_fw_spec.specs.declared.call.FwCall.TheVariants as calls;
 ghost use Rattle.psci_fw_spec.specs.declared.reply.FwReply.TheVariants as replies;
-ghost use Rattle.psci_fw_state.specs.Seen.{message_shown};
 ghost use Rattle.psci_messages.specs.Message.{AckValue, MessageValue};
 ghost use Rattle.psci_status.specs.Seats.{table};
 ghost use Rattle.psci_ffi.specs.Frames.{IsAcknowledged, IsFaulty, IsMisplaced};
@@ -181,72 +179,11 @@ impl Held {
         self.common.naming.board()
     }
 
-    /// `Firmware::status`.
-    pub fn status(&self, node: Node) -> Option<Status>
-        ensures { result ≡ status_shown self.now.polled.firmware node }
+    /// The firmware, to read.
+    pub fn firmware(&self) -> &Firmware
+        ensures { result.now ≡ self.now.polled.firmware }
     {
-        self.polled.firmware().status(node)
-    }
-
-    /// `Firmware::outstanding`, where it stands.
-    pub fn message(&self, number: u16) -> Option<&Message>
-        ensures { option_map (λ message. message.now) result
-            ≡ message_shown self.now.polled.firmware.board (seen self.now.polled.firmware) number }
-    {
-        self.polled.firmware().outstanding(number)
-    }
-
-    /// The same, copied.
-    pub fn outstanding(&self, number: u16) -> Option<Message>
-        ensures { result ≡ message_shown self.now.polled.firmware.board
-            (seen self.now.polled.firmware) number }
-    {
-        self.polled
-            .firmware()
-            .outstanding(number)
-            .map(Message::copy)
-    }
-
-    /// `Firmware::granted`.
-    pub fn granted(&self, node: Node) -> u8
-        ensures { result ≡ (seen self.now.polled.firmware).granted node.level node.place }
-    {
-        self.polled.firmware().granted(node)
-    }
-
-    /// `Firmware::hw`.
-    pub fn hw(&self, node: Node) -> Option<Hw>
-        ensures { result ≡ hw_shown self.now.polled.firmware node }
-    {
-        self.polled.firmware().hw(node)
-    }
-
-    /// `Firmware::known`.
-    pub fn known(&self, core: Core) -> u32
-        ensures { result ≡ (seen self.now.polled.firmware).known core.number }
-    {
-        self.polled.firmware().known(core)
-    }
-
-    /// `Firmware::running`.
-    pub fn running(&self, core: Core) -> bool
-        ensures { result ≡ is_running ((seen self.now.polled.firmware).phase core.number) }
-    {
-        self.polled.firmware().running(core)
-    }
-
-    /// `Firmware::life`.
-    pub fn life(&self) -> Option<u32>
-        ensures { result ≡ life_shown (seen self.now.polled.firmware).life }
-    {
-        self.polled.firmware().life()
-    }
-
-    /// `Firmware::halting`.
-    pub fn halting(&self) -> bool
-        ensures { result ≡ (seen self.now.polled.firmware).halting }
-    {
-        self.polled.firmware().halting()
+        self.polled.firmware()
     }
 
     /// The machine, if the place was opened with one.

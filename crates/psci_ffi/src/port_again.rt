@@ -79,7 +79,7 @@ fn again(held: &Held, number: u16, last: &mut PortSent, message: &mut SomeFrame)
         *message = no_frame();
         return refusal(FwFault::NoCore);
     }
-    look(held.message(number), last, message)
+    look(held.firmware().outstanding(number), last, message)
 }
 
 /// A look where this is outstanding.

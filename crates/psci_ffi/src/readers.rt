@@ -14,6 +14,7 @@ use crate::held::Held;
 use crate::place::Place;
 use psci_board::{Core, Node};
 use psci_fw::FwFault;
+use psci_messages::Message;
 
 /// The life of the last start that entered; 0 before any.
 #[unsafe(no_mangle)]
@@ -24,7 +25,7 @@ pub extern "C" fn psci_life(place: &mut Place) -> u32
     if !place.full {
         return 0;
     }
-    place.slot.held().life().unwrap_or(0)
+    place.slot.held().firmware().life().unwrap_or(0)
 }
 
 /// Whether SYSTEM_OFF, SYSTEM_RESET or SYSTEM_RESET2 was accepted in this life.
@@ -36,7 +37,7 @@ pub extern "C" fn psci_halting(place: &mut Place) -> bool
     if !place.full {
         return false;
     }
-    place.slot.held().halting()
+    place.slot.held().firmware().halting()
 }
 
 /// The status of a core (level 0) or power domain by the rule of AFFINITY_INFO: 0 ON, 1 OFF, 2
@@ -113,7 +114,7 @@ pub extern "C" fn psci_known(place: &mut Place, core: u16) -> u32
     if !place.full {
         return 0;
     }
-    place.slot.held().known(Core { number: core })
+    place.slot.held().firmware().known(Core { number: core })
 }
 
 /// Whether a core may call a function.
@@ -125,7 +126,7 @@ pub extern "C" fn psci_running(place: &mut Place, core: u16) -> bool
     if !place.full {
         return false;
     }
-    place.slot.held().running(Core { number: core })
+    place.slot.held().firmware().running(Core { number: core })
 }
 
 /// The frame of the outstanding message of a core, or of the system at the number of cores.
@@ -138,8 +139,8 @@ pub extern "C" fn psci_outstanding(place: &mut Place, number: u16, message: &mut
         *message = no_frame();
         return;
     }
-    let held = place.slot.held();
-    *message = frame_of(held.outstanding(number));
+    let firmware = place.slot.held().firmware();
+    *message = frame_of(firmware.outstanding(number).map(Message::copy));
 }
 
 /// The number of the status of a node, if the board has it.
@@ -150,7 +151,7 @@ fn status_of(held: &Held, node: Node) -> u32
     if node.place >= held.board().nodes(node.level) {
         return refusal(FwFault::NoCore);
     }
-    status_code(held.status(node))
+    status_code(held.firmware().status(node))
 }
 
 /// The granted depth of a domain, if the board has it.
@@ -161,7 +162,7 @@ fn granted_of(held: &Held, node: Node) -> u32
     if node.place >= held.board().nodes(node.level) {
         return refusal(FwFault::NoCore);
     }
-    u32::from(held.granted(node))
+    u32::from(held.firmware().granted(node))
 }
 
 /// The number of the hardware state of a node, if the board has it.
@@ -172,5 +173,5 @@ fn hw_of(held: &Held, node: Node) -> u32
     if node.place >= held.board().nodes(node.level) {
         return refusal(FwFault::NoCore);
     }
-    hw_number(held.hw(node))
+    hw_number(held.firmware().hw(node))
 }

@@ -35,8 +35,8 @@ pub extern "C" fn psci_stop(place: &mut Place, core: u16, x0: u64, stop: &mut St
         write_stop(stop, None, x0);
         return;
     }
-    let held = place.slot.held();
-    write_stop(stop, held.message(core), x0);
+    let firmware = place.slot.held().firmware();
+    write_stop(stop, firmware.outstanding(core), x0);
 }
 
 /// Writes the stop by which this message was sent, if one was.

@@ -1,5 +1,5 @@
-/* A core's reset line that acts late, or comes to nothing: the board's own C (boards/zcu102), with a thread as the core
- * and one as the line. Who starts the core, or ends the life, has to see it at its gate; a core that comes back by itself
+/* A core's reset line that acts late, or comes to nothing, as QEMU's does: the board's own C (boards/zcu102), with a thread
+ * as the core and one as the line. Who starts the core, or ends the life, has to see it at its gate; a core that comes back by itself
  * keeps what is pending for it. */
 #include "board.h"
 #include "console.h"
@@ -21,11 +21,11 @@ enum { AT_GATE, RUNS };
 
 struct kept kept;
 static volatile uint32_t lines, other;
-static atomic_int is_reset, where = RUNS, is_woken, is_over;
+static atomic_int is_reset, is_held, is_off, where = RUNS, is_woken, is_over;
 static atomic_uint door, entered, forgotten, comes_out, wrong;
 static _Thread_local jmp_buf *reset;
 static jmp_buf life;
-static unsigned seed = 1;
+static unsigned seed = 1, naps = 2;
 
 static void is_wrong(const char *what) {
     if (wrong++ < 5)
@@ -55,21 +55,35 @@ uint64_t *host_place(void) {
     return &number;
 }
 
-/* The core goes on, if it was not reset meanwhile. */
+/* The core goes on, if it was not reset meanwhile; not while the line is about to act. */
 void host_relax(void) {
     nap(5);
+    while (reset && (is_held || is_off) && !is_reset && !is_over)
+        nap(5);
     if (reset && atomic_exchange(&is_reset, 0))
         longjmp(*reset, 1);
     if (is_over && reset)
         pthread_exit(NULL);
 }
 
-/* It looks at the line when it comes to that, and no edge stays. */
+static void act(atomic_int *what) {
+    is_held = 1;
+    nap(rand_r(&seed) % 4000);
+    *what = 1;
+    is_off = what == &is_off;
+    is_held = 0;
+}
+
+/* It acts some time after it is pulled, and later. One pulled takes a core that is on off; one let go resets a core that is
+ * off by then, and is nothing to one that is still on. */
 static void *line(void *unused) {
-    for (bool was_held = false; !is_over; was_held = lines & RESET_LINE) {
-        nap(1000 + rand_r(&seed) % 4000);
-        if (was_held && !(lines & RESET_LINE))
-            is_reset = 1;
+    for (bool was_pulled = false; !is_over; nap(20)) {
+        bool is_pulled = lines & RESET_LINE;
+        if (is_pulled && !was_pulled && !is_off)
+            act(&is_off);
+        if (!is_pulled && was_pulled && is_off)
+            act(&is_reset);
+        was_pulled = is_pulled;
     }
     return unused;
 }
@@ -91,6 +105,7 @@ static void *core(void *unused) {
     if (setjmp(begin)) {
         where = AT_GATE;
         comes_out++;
+        nap(rand_r(&naps) % 8 ? 0 : 20000);
         board_comes_out();
         if (door == last)
             is_wrong("a core went on before its door was open");

@@ -7,9 +7,9 @@
 #include "shared.h"
 #include "string.h"
 
-/* Of each core how often its line was pulsed, which of these it has come out of, and by which it may go on. What it has
- * entered by stands in `shared`, which the boot core clears. */
-static struct gate { uint64_t pulsed, seen, open; } gates[4] __attribute__((section(".kept")));
+/* Of each core a count, which a pulse of its line raises, the last that it has seen at its gate, and that by which it may go
+ * on. What it has entered by stands in `shared`, which the boot core clears. */
+static struct gate { uint64_t count, seen, open; } gates[4] __attribute__((section(".kept")));
 
 static unsigned place_of(uint64_t mpidr) { return mpidr & 3; }
 
@@ -19,36 +19,35 @@ static void pause(uint64_t microseconds) {
         relax();
 }
 
-static void pulse_once(unsigned at, unsigned microseconds) {
+/* A line acts when it does. QEMU's acts when the core's thread comes to it, and one let go before is none, so it is pulsed
+ * again, longer, until the core stays at its gate: one that has seen two counts more is not about to be cut. */
+static void pulse(unsigned at) {
+    struct gate *gate = &gates[at];
     uint32_t line = 0x401u << at;
+    unsigned seen = 0;
     mmio32(RVBAR + 8 * at) = IMAGE;
     mmio32(RVBAR + 8 * at + 4) = 0;
-    mmio32(RST_FPD_APU) |= line;
-    pause(microseconds);
-    STORE(gates[at].pulsed, gates[at].pulsed + 1);
-    mmio32(RST_FPD_APU) &= ~line;
-}
-
-/* A line acts when it does: until the core is seen at its gate, what it was at may go on. QEMU's acts when the core's
- * thread comes to it, and one let go before is none, so it is pulsed again, longer, and with more time to come. */
-static void pulse(unsigned at) {
-    for (unsigned patience = 100;; patience *= 2) {
-        pulse_once(at, patience);
-        for (unsigned k = 0; k < patience && LOAD(gates[at].seen) != gates[at].pulsed; k++)
-            pause(100);
-        if (LOAD(gates[at].seen) == gates[at].pulsed)
-            return;
+    for (unsigned patience = 100; seen < 3; patience *= 2) {
+        mmio32(RST_FPD_APU) |= line;
+        pause(patience);
+        STORE(gate->count, gate->count + 1);
+        mmio32(RST_FPD_APU) &= ~line;
+        for (unsigned k = seen = 0; k < patience && seen < 3; k++, pause(100))
+            if (LOAD(gate->seen) == gate->count && ++seen < 3)
+                STORE(gate->count, gate->count + 1);
     }
 }
 
-/* The boot core goes on by itself where a life begins. A core that was pulsed has an interrupt controller that was not. */
+/* The boot core goes on by itself where a life begins. A core that was pulsed finds its gate closed, and has an interrupt
+ * controller that was not. */
 void board_comes_out(void) {
     struct gate *gate = &gates[place_of(own_mpidr())];
-    uint64_t pulsed = LOAD(gate->pulsed);
-    bool was_reset = gate->seen != pulsed;
-    STORE(gate->seen, pulsed);
-    while (LOAD(gate->open) != LOAD(gate->pulsed) && !(own_mpidr() == BOOT && !gic_is_started()))
+    bool was_reset = LOAD(gate->open) != LOAD(gate->count);
+    do {
+        STORE(gate->seen, LOAD(gate->count));
         relax();
+    } while (LOAD(gate->open) != LOAD(gate->count) && !(own_mpidr() == BOOT && !gic_is_started()));
+    STORE(gate->open, gate->count);
     if (was_reset || !gic_is_started())
         gic_forget();
 }
@@ -58,7 +57,7 @@ void board_resets(unsigned core) { pulse(place_of(described.mpidrs[core])); }
 void board_starts(unsigned core, bool was_reset) {
     struct gate *gate = &gates[place_of(described.mpidrs[core])];
     if (was_reset)
-        STORE(gate->open, gate->pulsed);
+        STORE(gate->open, gate->count);
     else
         gic_ring(core);
 }
@@ -97,7 +96,7 @@ static _Noreturn void switch_off(void) {
 static _Noreturn void begin_anew(void) {
     unsigned own = place_of(own_mpidr()), first = place_of(BOOT);
     for (unsigned at = 0; at < CORES; at++)
-        if (at != own && (gates[at].pulsed || at == first)) {
+        if (at != own && (gates[at].count || at == first)) {
             pulse(at);
             mmio32(RST_FPD_APU) |= at == first ? 0 : 0x401u << at;
         }
