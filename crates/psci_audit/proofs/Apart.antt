@@ -3,9 +3,8 @@ use Rattle.std.proofs.Common.{◌≡◌, ℕ, ◌<◌, ◌≤◌, List, [], ◌�
 use Rattle.std.proofs.Common.{arith, ◌-◌, length, take, drop, get_or, ap, ◌∙◌, subst}
 use Rattle.std.specs.Prelude.{◌↔◌}
 use Rattle.std.proofs.Math.Seq.{take-length}
-use Rattle.psci_shared.specs.Entries.{FwEntry}
-use Rattle.psci_shared.specs.CtlEntries.{CtlEntry}
-use Rattle.psci_audit.specs.Merged.{AreApart, IsIn, RiseAfter, tickets_by, tickets_of}
+use Rattle.psci_shared.specs.declared.entry.Entry.{Entry as Booked}
+use Rattle.psci_audit.specs.Merged.{AreApart, IsIn, RiseAfter, tickets_of}
 
 -- what rises after some ticket rises
 pub rises : (last : ℕ) (xs : List ℕ) → RiseAfter (Some last) xs → RiseAfter None xs
@@ -31,13 +30,12 @@ next_one x y xs ys less rise = (there, λ apart t at. apart t (inr at))
     there apart t (inl e) at = below (subst (λ u. IsIn u (y ∷ ys)) e at)
     there apart t (inr in_xs) at = apart t in_xs at
 
-pub next_other : (x y : ℕ) (xs ys : List ℕ) → y < x → RiseAfter None (x ∷ xs)
-    → AreApart (x ∷ xs) ys ↔ AreApart (x ∷ xs) (y ∷ ys)
-next_other x y xs ys less rise =
-    let next = next_one y x ys xs less rise in (
-      λ apart t at on. next.0 (λ u p q. apart u q p) t on at,
-      λ apart t at on. next.1 (λ u p q. apart u q p) t on at,
-    )
+-- what goes for one list beside another goes for the other one beside it
+turned : (xs ys zs : List ℕ) → AreApart xs ys ↔ AreApart zs ys → AreApart ys xs ↔ AreApart ys zs
+turned xs ys zs h = (
+  λ apart t on at. h.0 (λ u p q. apart u q p) t at on,
+  λ apart t on at. h.1 (λ u p q. apart u q p) t at on,
+)
 
 pub same : (x y : ℕ) (xs ys : List ℕ) → x ≡ y → AreApart (x ∷ xs) (y ∷ ys) → ⊥
 same x y xs ys e apart = apart x (inl refl) (inl e)
@@ -60,62 +58,53 @@ parts (y ∷ ys) x some is =
 pub both : {P Q R : Type 0} → P ↔ Q → Q ↔ R → P ↔ R
 both one other = (λ p. other.0 (one.0 p), λ r. one.1 (other.1 r))
 
-pub next_ones : (ones : List FwEntry) (others : List CtlEntry) (f : FwEntry) (c : CtlEntry)
-    → ones ≡ f ∷ tail ones → others ≡ c ∷ tail others → f.ticket < c.ticket
-    → RiseAfter None (tickets_of ones) → RiseAfter None (tickets_by others)
+pub next_ones : {W C R V D Q : Type 0} (ones : List (Booked W C R)) (others : List (Booked V D Q))
+    (f : Booked W C R) (c : Booked V D Q) → ones ≡ f ∷ tail ones → others ≡ c ∷ tail others
+    → f.ticket < c.ticket → RiseAfter None (tickets_of ones) → RiseAfter None (tickets_of others)
     → RiseAfter None (tickets_of (tail ones))
-    × (AreApart (tickets_of (tail ones)) (tickets_by others)
-    ↔ AreApart (tickets_of ones) (tickets_by others))
-next_ones ones others f c e d less one other =
-    let fs : List FwEntry = tail ones in
-    let cs : List CtlEntry = tail others in
+    × (AreApart (tickets_of (tail ones)) (tickets_of others)
+    ↔ AreApart (tickets_of ones) (tickets_of others))
+next_ones {W = W} {C = C} {R = R} {V = V} {D = D} {Q = Q} ones others f c e d less one other =
+    let fs : List (Booked W C R) = tail ones in
+    let cs : List (Booked V D Q) = tail others in
     let rise : RiseAfter None (f.ticket ∷ tickets_of fs) =
-    subst (λ (l : List FwEntry). RiseAfter None (tickets_of l)) e one in
-    let goes : RiseAfter None (c.ticket ∷ tickets_by cs) =
-    subst (λ (l : List CtlEntry). RiseAfter None (tickets_by l)) d other in (
+    subst (λ (l : List (Booked W C R)). RiseAfter None (tickets_of l)) e one in
+    let goes : RiseAfter None (c.ticket ∷ tickets_of cs) =
+    subst (λ (l : List (Booked V D Q)). RiseAfter None (tickets_of l)) d other in (
       rises f.ticket (tickets_of fs) rise.1,
-      subst (λ (l : List CtlEntry). AreApart (tickets_of fs) (tickets_by l)
-          ↔ AreApart (tickets_of ones) (tickets_by l)) (sym d)
-          (subst (λ (l : List FwEntry). AreApart (tickets_of fs) (c.ticket ∷ tickets_by cs)
-          ↔ AreApart (tickets_of l) (c.ticket ∷ tickets_by cs)) (sym e)
-          (next_one f.ticket c.ticket (tickets_of fs) (tickets_by cs) less goes)),
+      subst (λ (l : List (Booked V D Q)). AreApart (tickets_of fs) (tickets_of l)
+          ↔ AreApart (tickets_of ones) (tickets_of l)) (sym d)
+          (subst (λ (l : List (Booked W C R)). AreApart (tickets_of fs) (c.ticket ∷ tickets_of cs)
+          ↔ AreApart (tickets_of l) (c.ticket ∷ tickets_of cs)) (sym e)
+          (next_one f.ticket c.ticket (tickets_of fs) (tickets_of cs) less goes)),
     )
 
-pub next_others : (ones : List FwEntry) (others : List CtlEntry) (f : FwEntry) (c : CtlEntry)
+pub next_others : {W C R V D Q : Type 0} (ones : List (Booked W C R))
+    (others : List (Booked V D Q)) (f : Booked W C R) (c : Booked V D Q)
     → ones ≡ f ∷ tail ones → others ≡ c ∷ tail others → c.ticket < f.ticket
-    → RiseAfter None (tickets_of ones) → RiseAfter None (tickets_by others)
-    → RiseAfter None (tickets_by (tail others))
-    × (AreApart (tickets_of ones) (tickets_by (tail others))
-    ↔ AreApart (tickets_of ones) (tickets_by others))
+    → RiseAfter None (tickets_of ones) → RiseAfter None (tickets_of others)
+    → RiseAfter None (tickets_of (tail others))
+    × (AreApart (tickets_of ones) (tickets_of (tail others))
+    ↔ AreApart (tickets_of ones) (tickets_of others))
 next_others ones others f c e d less one other =
-    let fs : List FwEntry = tail ones in
-    let cs : List CtlEntry = tail others in
-    let rise : RiseAfter None (f.ticket ∷ tickets_of fs) =
-    subst (λ (l : List FwEntry). RiseAfter None (tickets_of l)) e one in
-    let goes : RiseAfter None (c.ticket ∷ tickets_by cs) =
-    subst (λ (l : List CtlEntry). RiseAfter None (tickets_by l)) d other in (
-      rises c.ticket (tickets_by cs) goes.1,
-      subst (λ (l : List FwEntry). AreApart (tickets_of l) (tickets_by cs)
-          ↔ AreApart (tickets_of l) (tickets_by others)) (sym e)
-          (subst (λ (l : List CtlEntry). AreApart (f.ticket ∷ tickets_of fs) (tickets_by cs)
-          ↔ AreApart (f.ticket ∷ tickets_of fs) (tickets_by l)) (sym d)
-          (next_other f.ticket c.ticket (tickets_of fs) (tickets_by cs) less rise)),
-    )
+    let next = next_ones others ones c f d e less other one in
+    (next.0, turned (tickets_of (tail others)) (tickets_of ones) (tickets_of others) next.1)
 
-pub same_ones : (ones : List FwEntry) (others : List CtlEntry) (f : FwEntry) (c : CtlEntry)
-    → ones ≡ f ∷ tail ones → others ≡ c ∷ tail others → f.ticket ≡ c.ticket
-    → AreApart (tickets_of ones) (tickets_by others) → ⊥
-same_ones ones others f c e d is apart =
-    same f.ticket c.ticket (tickets_of (tail ones)) (tickets_by (tail others)) is
-    (subst (λ (l : List FwEntry). AreApart (tickets_of l) (c.ticket ∷ tickets_by (tail others))) e
-    (subst (λ (l : List CtlEntry). AreApart (tickets_of ones) (tickets_by l)) d apart))
+pub same_ones : {W C R V D Q : Type 0} (ones : List (Booked W C R)) (others : List (Booked V D Q))
+    (f : Booked W C R) (c : Booked V D Q) → ones ≡ f ∷ tail ones → others ≡ c ∷ tail others
+    → f.ticket ≡ c.ticket → AreApart (tickets_of ones) (tickets_of others) → ⊥
+same_ones {W = W} {C = C} {R = R} {V = V} {D = D} {Q = Q} ones others f c e d is apart =
+    same f.ticket c.ticket (tickets_of (tail ones)) (tickets_of (tail others)) is
+    (subst (λ (l : List (Booked W C R)). AreApart (tickets_of l)
+    (c.ticket ∷ tickets_of (tail others))) e
+    (subst (λ (l : List (Booked V D Q)). AreApart (tickets_of ones) (tickets_of l)) d apart))
 
-pub none_here : (ones : List FwEntry) (others : List ℕ) → length ones < 1
+pub none_here : {W C R : Type 0} (ones : List (Booked W C R)) (others : List ℕ) → length ones < 1
     → AreApart (tickets_of ones) others
 none_here [] others few t at on = at
 none_here (f ∷ fs) others few t at on = absurd (omega (arith, few))
 
-pub none_there : (ones : List ℕ) (others : List CtlEntry) → length others < 1
-    → AreApart ones (tickets_by others)
+pub none_there : {V D Q : Type 0} (ones : List ℕ) (others : List (Booked V D Q))
+    → length others < 1 → AreApart ones (tickets_of others)
 none_there ones [] few t at on = on
 none_there ones (c ∷ cs) few t at on = absurd (omega (arith, few))

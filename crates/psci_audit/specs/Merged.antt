@@ -7,6 +7,7 @@ use Rattle.psci_world_spec.specs.psci_fw_spec.declared.call.FwCall.{FwCall}
 use Rattle.psci_world_spec.specs.psci_fw_spec.declared.call.FwCall.TheVariants as calls
 use Rattle.psci_shared.specs.Entries.{FwEntry}
 use Rattle.psci_shared.specs.CtlEntries.{CtlEntry}
+use Rattle.psci_shared.specs.declared.entry.Entry.{Entry as Booked}
 use Rattle.psci_audit.specs.Entries.{Entry, Asked, Controlled}
 use Rattle.psci_audit.specs.Legal.{IsLegal, MayFollow}
 use Rattle.psci_audit.specs.Told.{asked, controlled}
@@ -64,19 +65,15 @@ IsIn ticket (other ∷ others) = (ticket ≡ other) ⊎ IsIn ticket others
 abbrev pub AreApart : List ℕ → List ℕ → Type 0
 AreApart ones others = (ticket : ℕ) → IsIn ticket ones → IsIn ticket others → ⊥
 
--- the tickets of the firmware's book
-abbrev pub tickets_of : List FwEntry → List ℕ
-tickets_of entries = map (λ (e : FwEntry). e.ticket) entries
-
--- and those of the power controller's
-abbrev pub tickets_by : List CtlEntry → List ℕ
-tickets_by entries = map (λ (e : CtlEntry). e.ticket) entries
+-- the tickets of a book
+abbrev pub tickets_of : {W C R : Type 0} → List (Booked W C R) → List ℕ
+tickets_of entries = map (λ e. e.ticket) entries
 
 -- the tickets of two books fit: they rise in each, and none is in both
 pub record TicketsFit (fs : List FwEntry) (cs : List CtlEntry) : Type 0 where
   pub firmware : RiseAfter None (tickets_of fs)
-  pub controller : RiseAfter None (tickets_by cs)
-  pub apart : AreApart (tickets_of fs) (tickets_by cs)
+  pub controller : RiseAfter None (tickets_of cs)
+  pub apart : AreApart (tickets_of fs) (tickets_of cs)
 
 -- What an audit answers ------------------------------------------------------------------------
 

@@ -1,19 +1,18 @@
 //! Whether the tickets of two books fit.
 
 ghost use Rattle.std.specs.Prelude.{◌≡◌, ◌↔◌, IsTrue, None, option_map};
-ghost use Rattle.psci_audit.specs.Merged.{AreApart, IsAfter, RiseAfter, TicketsFit};
-ghost use Rattle.psci_audit.specs.Merged.{tickets_by, tickets_of};
+ghost use Rattle.psci_audit.specs.Merged.{AreApart, IsAfter, RiseAfter, TicketsFit, tickets_of};
 
-use psci_shared::{CtlEntry, FwEntry};
+use psci_shared::{CtlEntry, Entry, FwEntry};
 
 /// Whether the tickets rise in each book, and none is in both.
 pub(crate) fn tickets_fit(firmware: &[FwEntry], controller: &[CtlEntry]) -> bool
     ensures { IsTrue result ↔ TicketsFit firmware.now controller.now }
 {
-    if !firmware_rises(firmware) {
+    if !rises(firmware) {
         return false;
     }
-    if !controller_rises(controller) {
+    if !rises(controller) {
         return false;
     }
     are_apart(firmware, controller)
@@ -28,21 +27,8 @@ fn is_after(last: Option<u64>, ticket: u64) -> bool
     }
 }
 
-fn firmware_rises(entries: &[FwEntry]) -> bool
+fn rises<W: Drop, C: Drop, R: Drop>(entries: &[Entry<W, C, R>]) -> bool
     ensures { IsTrue result ↔ RiseAfter None (tickets_of entries.now) }
-{
-    let mut last = None;
-    for entry in entries {
-        if !is_after(last, entry.ticket) {
-            return false;
-        }
-        last = Some(entry.ticket);
-    }
-    true
-}
-
-fn controller_rises(entries: &[CtlEntry]) -> bool
-    ensures { IsTrue result ↔ RiseAfter None (tickets_by entries.now) }
 {
     let mut last = None;
     for entry in entries {
@@ -57,8 +43,8 @@ fn controller_rises(entries: &[CtlEntry]) -> bool
 /// Whether no ticket is in both, where they rise in each.
 fn are_apart(firmware: &[FwEntry], controller: &[CtlEntry]) -> bool
     requires firmware { RiseAfter None (tickets_of firmware.now) }
-    requires controller { RiseAfter None (tickets_by controller.now) }
-    ensures { IsTrue result ↔ AreApart (tickets_of firmware.now) (tickets_by controller.now) }
+    requires controller { RiseAfter None (tickets_of controller.now) }
+    ensures { IsTrue result ↔ AreApart (tickets_of firmware.now) (tickets_of controller.now) }
 {
     let (mut ones, mut others) = (firmware, controller);
     while let [one, after @ ..] = ones {

@@ -13,7 +13,7 @@ use crate::watch::Watch;
 use psci_shared::{
     Core, CtlEntry, CtlPass, FwEntry, Named, Pass, SharedController, SharedFirmware, Sighting,
 };
-use std::alloc::{AllocError, Global};
+use std::alloc::Global;
 
 /// The entries of both books, each in the order of its book, and what was seen by polls.
 #[derive(Drop)]
@@ -63,8 +63,8 @@ pub(crate) fn gather<N: Named, M: Named>(
         polls,
     } = handed_in(alloc, returned)?;
     Ok(Gathered {
-        firmware: firmware_entries(alloc, firmware, passes)?,
-        controller: controller_entries(alloc, controller, asked)?,
+        firmware: firmware_entries(firmware, passes)?,
+        controller: controller_entries(controller, asked)?,
         polls,
     })
 }
@@ -127,7 +127,6 @@ fn add_pass<N: Named>(
 
 /// The entries of a firmware that is gathered with these passes.
 fn firmware_entries<N: Named>(
-    alloc: Global,
     firmware: SharedFirmware<'_, N>,
     passes: Vec<Pass<N>>,
 ) -> Result<Vec<FwEntry>, Cut>
@@ -137,12 +136,11 @@ fn firmware_entries<N: Named>(
     let Ok(books) = firmware.gather(passes) else {
         return Err(Cut::Gather);
     };
-    Ok(copied(alloc, books.book.entries())?)
+    Ok(books.book.into_entries())
 }
 
 /// The entries of a power controller that is gathered with these passes.
 fn controller_entries<M: Named>(
-    alloc: Global,
     controller: SharedController<'_, M>,
     passes: Vec<CtlPass<M>>,
 ) -> Result<Vec<CtlEntry>, Cut>
@@ -151,37 +149,5 @@ fn controller_entries<M: Named>(
     let Ok(books) = controller.gather(passes) else {
         return Err(Cut::Gather);
     };
-    Ok(copied_controls(alloc, books.book.entries())?)
-}
-
-/// The entries of a firmware's book.
-fn copied(alloc: Global, entries: &[FwEntry]) -> Result<Vec<FwEntry>, AllocError>
-    ensures { IfOk result (λ copies. copies.items ≡ entries.now) }
-{
-    let mut copies = Vec::with_capacity(alloc, entries.len())?;
-    for entry in entries {
-        copies.push(FwEntry {
-            ticket: entry.ticket,
-            core: entry.core,
-            call: entry.call.copy(),
-            reply: entry.reply.copy(),
-        })?;
-    }
-    Ok(copies)
-}
-
-/// The entries of a power controller's book.
-fn copied_controls(alloc: Global, entries: &[CtlEntry]) -> Result<Vec<CtlEntry>, AllocError>
-    ensures { IfOk result (λ copies. copies.items ≡ entries.now) }
-{
-    let mut copies = Vec::with_capacity(alloc, entries.len())?;
-    for entry in entries {
-        copies.push(CtlEntry {
-            ticket: entry.ticket,
-            core: (),
-            call: entry.call.copy(),
-            reply: entry.reply.copy(),
-        })?;
-    }
-    Ok(copies)
+    Ok(books.book.into_entries())
 }

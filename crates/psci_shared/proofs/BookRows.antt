@@ -1,8 +1,7 @@
--- Worked examples of books: the reply after entries, what passes have seen of them, and what the
--- type of a book keeps. In life 2 the boot core has entered, and core 1 is OFF.
-use Rattle.std.proofs.Common.{◌≡◌, inl, inr, ℕ, zero, suc, ◌<◌, ◌≤◌, List, [], ◌∷◌, pos, false}
-use Rattle.std.proofs.Common.{refl, ap, arith, None, ◌∙◌, sym}
-use Rattle.psci_fw.specs.psci_board.Board.{BoardValue}
+-- Worked examples of books: the reply after entries, what passes have seen of them, which entries
+-- are told, and room. In life 2 the boot core has entered, and core 1 is OFF.
+use Rattle.std.proofs.Common.{inl, inr, ℕ, zero, suc, ◌<◌, ◌≤◌, List, [], ◌∷◌, pos, false}
+use Rattle.std.proofs.Common.{refl, ap, arith, None}
 use Rattle.psci_fw.specs.psci_fw_spec.Answer.{answer}
 use Rattle.psci_fw.specs.psci_fw_spec.After.{after}
 use Rattle.psci_fw.specs.psci_fw_spec.Calls.{outcome_of}
@@ -10,7 +9,6 @@ use Rattle.psci_fw.specs.psci_fw_spec.CpuOn.{target_of}
 use Rattle.psci_fw.specs.psci_fw_spec.Entering.{enter_outcome}
 use Rattle.psci_fw.specs.psci_fw_spec.History.{values_of}
 use Rattle.psci_fw.specs.psci_fw_spec.Statuses.{statuses}
-use Rattle.psci_fw.specs.psci_fw_spec.Values.{Values}
 use Rattle.psci_fw.specs.psci_fw_spec.declared.call.FwCall.{FwCall}
 use Rattle.psci_fw.specs.psci_fw_spec.declared.call.FwCall.TheVariants.{Smc, Enter}
 use Rattle.psci_fw.specs.psci_fw_spec.declared.fault.FwFault.TheVariants.{NoLife, NotRunning}
@@ -19,14 +17,13 @@ use Rattle.psci_fw.specs.psci_fw_spec.declared.reply.FwReply.{FwReply}
 use Rattle.psci_fw.specs.psci_fw_spec.declared.reply.FwReply.TheVariants.{Out, Taken, Fault}
 use Rattle.psci_fw.specs.psci_fw_spec.declared.status.Status.TheVariants.{On, Off, Pending}
 use Rattle.psci_fw.specs.psci_fw_spec.declared.status.Status.{Status}
-use Rattle.psci_fw.specs.Seen.{FirmwareValue, seen}
 use Rattle.psci_messages.specs.declared.start.Cause.TheVariants.{Boot}
 use Rattle.psci_status.specs.Lists.{Item, Within, row}
 use Rattle.psci_shared.specs.Entries.{FwEntry}
-use Rattle.psci_shared.specs.Books.{answer_after, entry, history_of}
+use Rattle.psci_shared.specs.Books.{IsTold, answer_after, entry, history_of}
 use Rattle.psci_shared.specs.Gathers.{AllSeen, AllStand}
-use Rattle.psci_shared.specs.Inside.{IsTied}
 use Rattle.psci_shared.specs.Passes.{PassView}
+use Rattle.psci_shared.specs.Room.{HasRoom}
 use Rattle.psci_shared.specs.Writing.{Stand}
 use Rattle.psci_shared.proofs.AnsweredRows.{kind}
 use Rattle.psci_shared.proofs.TwoCores.{board, of_two}
@@ -134,53 +131,34 @@ second_does_not_stand : AllStand board entries (pass [] ∷ pass ([] ∷ ((1, On
 unfolding statuses history_of
 second_does_not_stand h = never_on (h.1.0 1 (omega arith))
 
--- What the type of a book keeps -------------------------------------------------------------------
+-- Histories that are told -------------------------------------------------------------------------
 
--- a book without entries, of a firmware before any life
-tied : (f : FirmwareValue) → f.board ≡ board → seen f ≡ values_of board (history_of [])
-    → IsTied board f [] 4 3
-unfolding history_of
-tied f of_board values = record {
-  board = of_board;
-  values = values;
-  legal = tt;
-  within = omega arith;
-  reserved = omega arith;
-  small = omega arith;
-}
+both_lives : IsTold board [] × IsTold board entries
+unfolding computing history_of
+both_lives = (tt, (refl, (refl, tt)))
 
-more_room_than_reserved : (f : FirmwareValue) → IsTied board f [] 3 4 → ⊥
-more_room_than_reserved f h = let e : 4 ≤ 3 = h.reserved in omega arith
-
-more_entries_than_room : (f : FirmwareValue) → IsTied board f entries 4 1 → ⊥
-more_entries_than_room f h = let e : 2 ≤ 1 = h.within in omega arith
-
-room_is_too_large : (f : FirmwareValue) → IsTied board f [] 0x100000000 0x100000000 → ⊥
-room_is_too_large f h = let e : 0x100000000 < 0x100000000 = h.small in omega arith
-
--- core 1 was answered while it was off
+-- core 1 was answered while it was off; or was refused since it does not run, before there was a
+-- life
 abbrev is_out : FwReply → ℕ
 is_out (Out outcome) = 1
 is_out (Taken taken) = 2
 is_out (Fault fault) = 3
 
-illegal : (f : FirmwareValue)
-    → IsTied board f (entry 0 (record { number = 1 }) version told ∷ []) 4 3 → ⊥
+not_so : ¬ (IsTold board (entry 0 (record { number = 1 }) version told ∷ []))
+    × ¬ (IsTold board (entry 0 (record { number = 1 }) version (Fault NotRunning) ∷ []))
 unfolding computing history_of
-illegal f h = eqb-false 1 3 refl (ap is_out h.legal.0)
+not_so = (λ h. eqb-false 1 3 refl (ap is_out h.0), λ h. eqb-false 5 4 refl (ap kind h.0))
 
--- core 1 was refused since it does not run, before there was a life
-refused_early : (f : FirmwareValue)
-    → IsTied board f (entry 0 (record { number = 1 }) version (Fault NotRunning) ∷ []) 4 3 → ⊥
-unfolding computing history_of
-refused_early f h = eqb-false 5 4 refl (ap kind h.legal.0)
+-- Room --------------------------------------------------------------------------------------------
 
--- the firmware is of another board; it has another life than the entries say
-other_board : (f : FirmwareValue) → f.board.starts ≡ 8 → IsTied board f [] 4 3 → ⊥
-other_board f eight h =
-    eqb-false 8 9 refl (sym eight ∙ ap (λ (b : BoardValue). b.starts) h.board)
+has_room : HasRoom 3 4 3
+has_room = record { within = omega arith; reserved = omega arith; small = omega arith }
 
-other_life : (f : FirmwareValue) → (seen f).life ≡ 1 → IsTied board f entries 4 3 → ⊥
-unfolding computing history_of
-other_life f one h =
-    eqb-false 1 2 refl (sym one ∙ ap (λ (v : Values). v.life) h.values)
+more_entries_than_room : HasRoom 2 4 1 → ⊥
+more_entries_than_room h = let e : 2 ≤ 1 = h.within in omega arith
+
+more_room_than_reserved : HasRoom 0 3 4 → ⊥
+more_room_than_reserved h = let e : 4 ≤ 3 = h.reserved in omega arith
+
+room_is_too_large : HasRoom 0 0x100000000 0x100000000 → ⊥
+room_is_too_large h = let e : 0x100000000 < 0x100000000 = h.small in omega arith

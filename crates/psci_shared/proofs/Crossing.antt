@@ -6,14 +6,9 @@ use denote.Ref.{NamedLft}
 use Rattle.psci_shared.specs.contracts.shared.SharedFirmware as Shared
 use Rattle.psci_shared.specs.contracts.controller.shared.SharedController as Controlled
 use denote.Struct.Declared.{shape}
-use Rattle.std.specs.contracts.vec.Vec as Vec
-use Rattle.std.specs.contracts.alloc.Global as Heap
-use Rattle.std.specs.contracts.impls.GlobalAllocator.TheImpl.{ghosts}
 use Rattle.psci_board.specs.contracts.node.Core as Core
 use Rattle.psci_fw_spec.specs.contracts.call.FwCall as FwCall
 use Rattle.psci_fw_spec.specs.contracts.reply.FwReply as FwReply
-use Rattle.psci_shared.specs.contracts.entry.Entry as Entry
-use Rattle.psci_shared.specs.contracts.book.FwBook.TheInside as Inside
 use Rattle.std.proofs.Crossing as heap
 use Rattle.psci_board.proofs.board.Board.TheSendSync as board
 use Rattle.psci_messages.proofs.slots.Slots.TheSendSync as slots
@@ -26,13 +21,11 @@ use Rattle.psci_fw.specs.contracts.firmware.Firmware as Firmware
 use denote.RattleType.{RattleType}
 use Rattle.std.specs.declared.sync.ledger.Ledger as Ledger
 use Rattle.std.specs.contracts.sync.ledger.Share as Share
-use Rattle.std.proofs.marker.PhantomData.TheSendSync as phantom
 use Rattle.std.proofs.sync.ledger.Book.TheSendSync as total
 use Rattle.std.proofs.sync.ledger.Share.TheSendSync as share
 use Rattle.psci_status.proofs.seats.Writer.TheSendSync as writer
 use Rattle.psci_status.proofs.seats.StatusWords.TheSendSync as words
 use Rattle.psci_shared.specs.declared.named.Named as Named
-use Rattle.psci_shared.specs.contracts.book.FwBook as Book
 use Rattle.psci_shared.specs.contracts.locked.FwLocked as Locked
 use Rattle.psci_shared.specs.contracts.pass.PassOf as PassOf
 use Rattle.psci_shared.specs.contracts.seen.Seen as Seen
@@ -44,7 +37,7 @@ use Rattle.psci_board.proofs.node.Core.TheSendSync as core_at
 use Rattle.psci_fw_spec.proofs.call.FwCall.TheSendSync as call
 use Rattle.psci_fw_spec.proofs.reply.FwReply.TheSendSync as reply
 use Rattle.psci_shared.proofs.controller.locked.CtlLocked.TheSendSync as controller
-use Rattle.psci_shared.proofs.entry.Entry.TheSendSync as entry
+use Rattle.psci_shared.proofs.book.BookOf.TheSendSync as books
 use Rattle.psci_shared.proofs.pass.PassOf.TheSendSync as passes
 use Rattle.psci_shared.proofs.seen.Seen.TheSendSync as seen
 use Rattle.psci_shared.proofs.tickets.Tickets.TheSendSync as tickets
@@ -75,23 +68,6 @@ firmware : IsSend Firmware.the_row
 firmware = search (heap.crosses, state, sendable) depth 60 fits 20000
 
 module _ (N : RattleType) (named : Named.Ghosts N.Denot) (ledger : Ledger.Ghosts N.Denot) where
-  rows : IsSend
-      (Vec.the_row (Entry.the_row Core.the_row FwCall.the_row FwReply.the_row) Heap.the_row ghosts)
-  rows =
-      heap.Vec-send _
-      (search (entry.the_send, core_at.the_send, call.the_send, reply.the_send, sendable)
-      depth 60 fits 20000)
-
-  inside : IsSend (Inside.the_row N named ledger)
-  inside =
-      recorded_send (Inside.the_field N named ledger).row _ _
-      (Inside.the_type N named ledger).to_one
-      (struct_send (shape (Inside.the_type N named ledger))
-      (firmware, (rows, (plain_send _ _ _ _ _, (search (phantom.the_field_send, sendable), tt)))))
-
-  book : IsSend (Book.the_row N named ledger)
-  book = view_send _ _ _ _ _ inside
-
   counted : IsSend (Counted.the_row N named ledger)
   counted =
       recorded_send (Counted.the_field N named ledger).row _ _
@@ -107,7 +83,15 @@ module _ (N : RattleType) (named : Named.Ghosts N.Denot) (ledger : Ledger.Ghosts
       recorded_send (Locked.the_field N named ledger).row _ _
       (Locked.the_type N named ledger).to_one
       (struct_send (shape (Locked.the_type N named ledger)) (
-        book,
+        search (
+          books.the_send,
+          firmware,
+          core_at.the_send,
+          call.the_send,
+          reply.the_send,
+          heap.crosses,
+          sendable,
+        ) depth 60 fits 20000,
         (writer.the_field_send, (plain_send _ _ _ _ _, (tally, tt))),
       ))
 

@@ -1,6 +1,6 @@
--- Worked examples of how a call through a pass was answered, of a book that is full, of a new pass
--- and of why none is made.
-use Rattle.std.proofs.Common.{◌≡◌, ℕ, ◌<◌, List, [], ◌∷◌, length, false, true, refl, ap, arith}
+-- Worked examples of how a call through a pass was answered, of histories that are told, of a new
+-- pass and of why none is made.
+use Rattle.std.proofs.Common.{◌≡◌, ℕ, ◌<◌, List, [], ◌∷◌, length, false, refl, ap, arith}
 use Rattle.psci_ctl.specs.psci_ctl_spec.Effects.{effect_of}
 use Rattle.psci_ctl.specs.psci_ctl_spec.History.{values_of}
 use Rattle.psci_ctl.specs.psci_ctl_spec.Replies.{delivery_of, reply, reset_of, wake_of}
@@ -14,8 +14,8 @@ use Rattle.psci_ctl.specs.psci_ctl_spec.psci_messages.declared.kind.Kind.TheVari
 use Rattle.psci_ctl.specs.psci_ctl_spec.psci_messages.declared.start.Cause.TheVariants as causes
 use Rattle.psci_shared.specs.declared.fault.PassFault.TheVariants.{NoCore, TooMany, Memory}
 use Rattle.psci_shared.specs.CtlEntries.{CtlEntry, CtlItem}
-use Rattle.psci_shared.specs.CtlAnswered.{Fill, IsAnswered, IsAnsweredAfter, IsFull}
-use Rattle.psci_shared.specs.CtlBooks.{BookView, entry, history_of}
+use Rattle.psci_shared.specs.CtlAnswered.{IsAnswered, IsAnsweredAfter, IsFull}
+use Rattle.psci_shared.specs.CtlBooks.{BookView, IsTold, entry, history_of}
 use Rattle.psci_shared.specs.CtlLocked.{IsTurnedAway}
 use Rattle.psci_shared.specs.Views.{first, item, told}
 use Rattle.psci_shared.specs.CtlPasses.{IsNoPass, PassView}
@@ -157,6 +157,31 @@ first_is_illegal : IsAnsweredAfter board (resets 2 ∷ resets 2 ∷ []) (pass []
 unfolding computing
 first_is_illegal h = eqb-false 2 1 refl (ap number_in h.0.2.0)
 
+-- Histories ---------------------------------------------------------------------------------------
+
+-- the last call of a book is the first of its history
+last_call_first : history_of (entry 5 (wake 1 1) ignored ∷ resets 6 ∷ [])
+    ≡ record { call = reset 1; reply = reset_to 6 }
+    ∷ record { call = wake 1 1; reply = ignored } ∷ []
+unfolding history_of
+last_call_first = refl
+
+both_resets : IsTold board [] × IsTold board entries
+unfolding computing
+both_resets = (tt, (refl, omega arith, (refl, omega arith, tt)))
+
+-- the first reset is answered as the second; a wake-up as a message; a core that the board does not
+-- have is reset
+not_so : ¬ (IsTold board (resets 2 ∷ []))
+    × ¬ (IsTold board (entry 0 (wake 1 0) passed_over ∷ []))
+    × ¬ (IsTold board (entry 0 (reset 2) (reset_to 1) ∷ []))
+unfolding computing
+not_so = (
+  λ h. eqb-false 2 1 refl (ap number_in h.0),
+  λ h. eqb-false 98 1 refl (ap number_in h.0),
+  λ h. let e : 2 < 2 = h.1 in omega arith,
+)
+
 -- A book that is full ----------------------------------------------------------------------------
 
 full_with_two : IsFull board 2 (told (pass []))
@@ -167,15 +192,6 @@ full_without_room : IsFull board 0 (told (pass []))
 unfolding computing
 full_without_room = (refl, ([], (tt, refl)))
 
--- there is room for one more, or there was for one less; the entries are not legal
-do_not_fill : ¬ (Fill board 3 entries) × ¬ (Fill board 1 entries) × ¬ (Fill board 1 (resets 2 ∷ []))
-unfolding computing
-do_not_fill = (
-  λ h. eqb-false 2 3 refl h.1,
-  λ h. eqb-false 2 1 refl h.1,
-  λ h. eqb-false 2 1 refl (ap number_in h.0.0),
-)
-
 not_told : IsFull board 2 (pass []) → ⊥
 not_told h = false≢true h.0
 
@@ -183,22 +199,25 @@ not_told h = false≢true h.0
 abbrev full_book : BookView
 full_book = record { entries = entries; room = 2 }
 
-abbrev new_pass : ℕ → PassView
-new_pass room = first tt room tt
-
-turned_away : IsTurnedAway board 2 full_book full_book (new_pass 2)
-    (record (new_pass 2) { told_full = true })
+turned_away : IsTurnedAway board 2 full_book full_book (pass []) (told (pass []))
 unfolding computing
 turned_away = (refl, refl, refl, (refl, omega arith, (refl, omega arith, tt)))
 
-turned_away_early : IsTurnedAway board 3 full_book full_book (new_pass 2)
-    (record (new_pass 2) { told_full = true }) → ⊥
-turned_away_early h = eqb-false 2 3 refl h.2
+-- there is room for one more; the entry is not legal
+abbrev illegal_book : BookView
+illegal_book = record { entries = resets 2 ∷ []; room = 1 }
+
+turned_away_otherwise : ¬ (IsTurnedAway board 3 full_book full_book (pass []) (told (pass [])))
+    × ¬ (IsTurnedAway board 1 illegal_book illegal_book (pass []) (told (pass [])))
+unfolding computing
+turned_away_otherwise = (
+  λ h. eqb-false 2 3 refl h.2,
+  λ h. eqb-false 2 1 refl (ap number_in h.3.0),
+)
 
 -- Passes -----------------------------------------------------------------------------------------
 
-a_new_pass : new_pass 4
-    ≡ record { core = tt; room = 4; told_full = false; items = []; seen = tt }
+a_new_pass : pass [] ≡ first tt 4 tt
 a_new_pass = refl
 
 -- they are too many; memory lacks

@@ -1,10 +1,5 @@
--- Worked examples of what a pass is after a call, and of what the type of a book keeps.
-use Rattle.std.proofs.Common.{◌≡◌, ℕ, ◌<◌, ◌≤◌, List, [], ◌∷◌, length, Bool, true, false, refl, ap}
-use Rattle.std.proofs.Common.{arith, ◌∙◌, sym}
-use Rattle.psci_board.specs.Board.{BoardValue}
-use Rattle.psci_ctl.specs.Seen.{ControllerValue, seen}
-use Rattle.psci_ctl.specs.psci_ctl_spec.History.{values_of}
-use Rattle.psci_ctl.specs.psci_ctl_spec.Replies.{reply, wake_of}
+-- Worked examples of what a pass is after a call of the power controller.
+use Rattle.std.proofs.Common.{◌≡◌, ℕ, List, [], ◌∷◌, length, Bool, true, false, refl, ap}
 use Rattle.psci_ctl.specs.psci_ctl_spec.declared.call.CtlCall.{CtlCall}
 use Rattle.psci_ctl.specs.psci_ctl_spec.declared.call.CtlCall.TheVariants.{Deliver, Reset, Wake}
 use Rattle.psci_ctl.specs.psci_ctl_spec.declared.delivery.Delivery.TheVariants as deliveries
@@ -13,11 +8,8 @@ use Rattle.psci_ctl.specs.psci_ctl_spec.declared.reply.CtlReply.{CtlReply}
 use Rattle.psci_ctl.specs.psci_ctl_spec.declared.reply.CtlReply.TheVariants.{Delivery, Kick}
 use Rattle.psci_ctl.specs.psci_ctl_spec.psci_messages.declared.kind.Kind.TheVariants as kinds
 use Rattle.psci_shared.specs.CtlEntries.{CtlItem}
-use Rattle.psci_shared.specs.CtlBooks.{entry, history_of}
-use Rattle.psci_shared.specs.CtlInside.{IsTied}
 use Rattle.psci_shared.specs.Views.{item, told}
 use Rattle.psci_shared.specs.CtlPasses.{Fits, IsCalled, PassView}
-use Rattle.psci_shared.proofs.TwoCores.{board}
 use Rattle.std.proofs.lemmas.Bool.{eqb-false, true≢false}
 
 abbrev wake : ℕ → CtlCall
@@ -107,37 +99,3 @@ called_otherwise = (
 -- a pass that was told that the book is full keeps its items and its room
 told_full : told (pass false (old ∷ new ∷ [])) ≡ pass true (old ∷ new ∷ [])
 told_full = refl
-
--- What the type of a book keeps -------------------------------------------------------------------
-
-tied : (c : ControllerValue) → c.board ≡ board → seen c ≡ values_of board (history_of [])
-    → IsTied board c [] 4 3
-unfolding history_of
-tied c of_board values = record {
-  board = of_board;
-  values = values;
-  legal = tt;
-  within = omega arith;
-  reserved = omega arith;
-  small = omega arith;
-}
-
-more_room_than_reserved : (c : ControllerValue) → IsTied board c [] 3 4 → ⊥
-more_room_than_reserved c h = let e : 4 ≤ 3 = h.reserved in omega arith
-
-more_entries_than_room : (c : ControllerValue)
-    → IsTied board c (entry 0 reset kicked ∷ entry 1 reset kicked ∷ []) 4 1 → ⊥
-more_entries_than_room c h = let e : 2 ≤ 1 = h.within in omega arith
-
-room_is_too_large : (c : ControllerValue)
-    → IsTied board c [] 0x100000000 0x100000000 → ⊥
-room_is_too_large c h = let e : 0x100000000 < 0x100000000 = h.small in omega arith
-
--- a wake-up was answered with a delivery
-illegal : (c : ControllerValue) → IsTied board c (entry 0 (wake 1) delivered ∷ []) 4 3 → ⊥
-unfolding history_of values_of reply wake_of
-illegal c h = eqb-false 0 1 refl (ap is_kick h.legal.0)
-
-other_board : (c : ControllerValue) → c.board.starts ≡ 8 → IsTied board c [] 4 3 → ⊥
-other_board c eight h =
-    eqb-false 8 9 refl (sym eight ∙ ap (λ (b : BoardValue). b.starts) h.board)

@@ -4,11 +4,9 @@ pub mod BookRows
 pub mod CallRows
 pub mod ChangeRows
 pub mod Crossing
-pub mod CtlAgreeRows
 mod CtlAnsweredRows
 pub mod CtlCallRows
-pub mod CtlHistories
-mod CtlTiedRows
+mod HasRows
 pub mod Histories
 pub mod OwnCalls
 pub mod Placed

@@ -1,6 +1,6 @@
 -- Worked examples of calls through a pass that were refused or came first, and of a book that is
 -- full.
-use Rattle.std.proofs.Common.{◌≡◌, inl, inr, ℕ, List, [], ◌∷◌, length, refl, ap}
+use Rattle.std.proofs.Common.{inl, inr, ℕ, List, [], ◌∷◌, length, refl, ap}
 use Rattle.std.proofs.Common.{arith, true}
 use Rattle.psci_fw.specs.psci_fw_spec.declared.fault.FwFault.TheVariants.{NoLife, NotRunning}
 use Rattle.psci_fw.specs.psci_fw_spec.declared.reply.FwReply.{FwReply}
@@ -10,10 +10,11 @@ use Rattle.psci_messages.specs.declared.taken.Taken.TheVariants as takens
 use Rattle.psci_status.specs.Lists.{Item}
 use Rattle.psci_shared.specs.Entries.{FwEntry, FwItem}
 use Rattle.psci_shared.specs.declared.fault.CallFault.TheVariants.{BookFull, Fw}
-use Rattle.psci_shared.specs.Answered.{Fill, IsAnswered, IsAnsweredAfter, IsAnsweredFault, IsFull}
-use Rattle.psci_shared.specs.Books.{BookView, entry, history_of}
+use Rattle.psci_shared.specs.Answered.{IsAnswered, IsAnsweredAfter, IsAnsweredFault, IsFull}
+use Rattle.psci_shared.specs.Books.{BookView, IsTold, entry}
 use Rattle.psci_shared.specs.Locked.{IsTurnedAway}
 use Rattle.psci_shared.specs.Passes.{PassView}
+use Rattle.psci_shared.specs.Room.{Fill}
 use Rattle.psci_shared.specs.Views.{item, told}
 use Rattle.psci_shared.specs.Writing.{AllLast, Stand}
 use Rattle.psci_shared.proofs.AnsweredRows.{accepted, booted, boots, computing, enters}
@@ -161,7 +162,8 @@ unfolding computing
 so_the_book_was_full = (refl, (twice, ((refl, (refl, tt)), refl)))
 
 -- there is room for one more, or there was for one less; the entries are not legal
-do_not_fill : ¬ (Fill board 3 twice) × ¬ (Fill board 1 twice) × ¬ (Fill board 1 (early ∷ []))
+do_not_fill : ¬ (Fill (IsTold board) 3 twice) × ¬ (Fill (IsTold board) 1 twice)
+    × ¬ (Fill (IsTold board) 1 (early ∷ []))
 unfolding computing
 do_not_fill = (
   λ h. eqb-false 2 3 refl h.1,

@@ -1,5 +1,5 @@
 -- How a call through a pass was answered.
-use Rattle.std.specs.Prelude.{◌≡◌, ℕ, List, [], ◌∷◌, ◌++◌, length, true}
+use Rattle.std.specs.Prelude.{◌≡◌, ℕ, List, [], ◌∷◌, ◌++◌, length}
 use Rattle.psci_fw.specs.psci_board.Board.{BoardValue}
 use Rattle.psci_fw.specs.psci_fw_spec.declared.call.FwCall.{FwCall}
 use Rattle.psci_fw.specs.psci_fw_spec.declared.reply.FwReply.{FwReply}
@@ -8,8 +8,9 @@ use Rattle.psci_fw.specs.psci_fw_spec.Legal.{IsLegal}
 use Rattle.psci_shared.specs.Entries.{FwEntry}
 use Rattle.psci_shared.specs.declared.fault.CallFault.{CallFault}
 use Rattle.psci_shared.specs.declared.fault.CallFault.TheVariants.{BookFull, Fw}
-use Rattle.psci_shared.specs.Books.{answer_after, entry, history_of}
+use Rattle.psci_shared.specs.Books.{IsTold, answer_after, entry, history_of}
 use Rattle.psci_shared.specs.Passes.{PassView}
+use Rattle.psci_shared.specs.Room.{IsFullOf}
 use Rattle.psci_shared.specs.Views.{item}
 use Rattle.psci_shared.specs.Writing.{AllLast, Stand}
 
@@ -30,14 +31,9 @@ abbrev pub IsAnswered : BoardValue → PassView → PassView → FwCall → FwRe
 IsAnswered b p p' call reply =
     (entries : List FwEntry) × (ticket : ℕ) × IsAnsweredAfter b entries ticket p p' call reply
 
--- these entries fill a book of that room: they are as many, and their history is legal
-abbrev pub Fill : BoardValue → ℕ → List FwEntry → Type 0
-Fill b room entries = IsLegal b (history_of entries) × (length entries ≡ room)
-
--- the book was full: the pass has it from the lock, and there are entries that fill one. As long as
--- a pass was told so, the book is full that it is gathered with, or fails to be
+-- the firmware's book was full
 abbrev pub IsFull : BoardValue → ℕ → PassView → Type 0
-IsFull b room p = (p.told_full ≡ true) × ((entries : List FwEntry) × Fill b room entries)
+IsFull b room p = IsFullOf (IsTold b) room p
 
 -- so was what the firmware refuses; or the book was full
 abbrev pub IsAnsweredFault : BoardValue → ℕ → PassView → PassView → FwCall → CallFault → Type 0

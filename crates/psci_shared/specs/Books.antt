@@ -1,5 +1,6 @@
 -- A book as contracts see it, and the history that it tells.
-use Rattle.std.specs.Prelude.{ℕ, List, map, reverse}
+use Rattle.std.specs.Prelude.{◌≡◌, ℕ, List, map, reverse}
+use Rattle.psci_fw.specs.Seen.{FirmwareValue, seen}
 use Rattle.psci_fw.specs.psci_board.declared.node.Core.{Core}
 use Rattle.psci_fw.specs.psci_board.Board.{BoardValue}
 use Rattle.psci_fw.specs.psci_fw_spec.declared.call.FwCall.{FwCall}
@@ -7,6 +8,7 @@ use Rattle.psci_fw.specs.psci_fw_spec.declared.reply.FwReply.{FwReply}
 use Rattle.psci_fw.specs.psci_fw_spec.Answer.{answer}
 use Rattle.psci_fw.specs.psci_fw_spec.Exchange.{FwExchange}
 use Rattle.psci_fw.specs.psci_fw_spec.History.{values_of}
+use Rattle.psci_fw.specs.psci_fw_spec.Legal.{IsLegal}
 use Rattle.psci_shared.specs.Entries.{FwEntry}
 use Rattle.psci_shared.specs.Views.{AnyBook}
 
@@ -26,6 +28,14 @@ exchange_of e = record { core = e.core.number; call = e.call; reply = e.reply }
 -- the history of a book, the last call first
 unfoldable pub history_of : List FwEntry → List FwExchange
 history_of entries = map exchange_of (reverse entries)
+
+-- they tell a legal history: each reply is the answer after the entries before it
+abbrev pub IsTold : BoardValue → List FwEntry → Type 0
+IsTold b entries = IsLegal b (history_of entries)
+
+-- a firmware of this board that has the values after these entries
+abbrev pub Has : BoardValue → FirmwareValue → List FwEntry → Type 0
+Has b f entries = (f.board ≡ b) × (seen f ≡ values_of b (history_of entries))
 
 -- the one reply to a call after these entries
 abbrev pub answer_after : BoardValue → List FwEntry → ℕ → FwCall → FwReply

@@ -1,11 +1,12 @@
 -- How a call through a pass was answered.
-use Rattle.std.specs.Prelude.{◌≡◌, ℕ, List, [], ◌∷◌, ◌++◌, length, true}
+use Rattle.std.specs.Prelude.{◌≡◌, ℕ, List, [], ◌∷◌, ◌++◌, length}
 use Rattle.psci_board.specs.Board.{BoardValue}
 use Rattle.psci_ctl.specs.psci_ctl_spec.declared.call.CtlCall.{CtlCall}
 use Rattle.psci_ctl.specs.psci_ctl_spec.declared.reply.CtlReply.{CtlReply}
 use Rattle.psci_ctl.specs.psci_ctl_spec.Legal.{IsLegal, legal_reply}
 use Rattle.psci_shared.specs.CtlEntries.{CtlEntry}
-use Rattle.psci_shared.specs.CtlBooks.{history_of}
+use Rattle.psci_shared.specs.CtlBooks.{IsTold, history_of}
+use Rattle.psci_shared.specs.Room.{IsFullOf}
 use Rattle.psci_shared.specs.Views.{item}
 use Rattle.psci_shared.specs.CtlPasses.{PassView}
 
@@ -23,11 +24,6 @@ abbrev pub IsAnswered : BoardValue → PassView → PassView → CtlCall → Ctl
 IsAnswered b p p' call reply =
     (entries : List CtlEntry) × IsAnsweredAfter b entries p p' call reply
 
--- these entries fill a book of that room: they are as many, and their history is legal
-abbrev pub Fill : BoardValue → ℕ → List CtlEntry → Type 0
-Fill b room entries = IsLegal b (history_of entries) × (length entries ≡ room)
-
--- the book was full: the pass has it from the lock, and there are entries that fill one. As long as
--- a pass was told so, the book is full that it is gathered with, or fails to be
+-- the power controller's book was full
 abbrev pub IsFull : BoardValue → ℕ → PassView → Type 0
-IsFull b room p = (p.told_full ≡ true) × ((entries : List CtlEntry) × Fill b room entries)
+IsFull b room p = IsFullOf (IsTold b) room p

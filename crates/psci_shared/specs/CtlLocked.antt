@@ -5,9 +5,10 @@ use Rattle.psci_ctl.specs.psci_ctl_spec.Legal.{IsLegal, legal_reply}
 use Rattle.psci_ctl.specs.psci_ctl_spec.declared.call.CtlCall.{CtlCall}
 use Rattle.psci_ctl.specs.psci_ctl_spec.declared.reply.CtlReply.{CtlReply}
 use Rattle.psci_shared.specs.CtlEntries.{CtlEntry}
-use Rattle.psci_shared.specs.Views.{called, entered, item, told}
-use Rattle.psci_shared.specs.CtlBooks.{BookView, entry, history_of}
+use Rattle.psci_shared.specs.Views.{called, entered, item}
+use Rattle.psci_shared.specs.CtlBooks.{BookView, IsTold, entry, history_of}
 use Rattle.psci_shared.specs.CtlPasses.{Fits, PassView}
+use Rattle.psci_shared.specs.Room.{IsTurnedAwayOf}
 
 -- the reply is the one reply after these entries, and one to such a call
 abbrev pub IsReply : BoardValue → List CtlEntry → CtlCall → CtlReply → Type 0
@@ -21,8 +22,6 @@ IsEntered b ticket book book' p p' call reply =
     × (p' ≡ called p (item (length book.entries) call reply) tt)
     × IsLegal b (history_of book.entries)
 
--- the book of a legal history is full: it stays as it is, and the pass is told
+-- the power controller's book is full: it stays as it is, and the pass is told
 abbrev pub IsTurnedAway : BoardValue → ℕ → BookView → BookView → PassView → PassView → Type 0
-IsTurnedAway b room book book' p p' =
-    (book' ≡ book) × (p' ≡ told p) × (length book.entries ≡ room)
-    × IsLegal b (history_of book.entries)
+IsTurnedAway b room book book' p p' = IsTurnedAwayOf (IsTold b) room book book' p p'

@@ -14,9 +14,10 @@ use Rattle.psci_shared.specs.declared.done.Done.{Done}
 use Rattle.psci_shared.specs.declared.done.Said.{Said}
 use Rattle.psci_shared.specs.declared.done.Said.TheVariants.{Reacted, Taken}
 use Rattle.psci_shared.specs.Entries.{FwEntry}
-use Rattle.psci_shared.specs.Books.{BookView, answer_after, entry, history_of}
+use Rattle.psci_shared.specs.Books.{BookView, IsTold, answer_after, entry, history_of}
 use Rattle.psci_shared.specs.Passes.{Fits, PassView}
-use Rattle.psci_shared.specs.Views.{called, entered, item, told}
+use Rattle.psci_shared.specs.Room.{IsTurnedAwayOf}
+use Rattle.psci_shared.specs.Views.{called, entered, item}
 use Rattle.psci_shared.specs.Writing.{AllLast, Stand, named_by}
 
 -- a list has one more at its end, in the room that there was
@@ -53,8 +54,6 @@ IsEntered b ticket book book' p p' call reply =
     × AllLast b book'.entries p'.seen
     × IsLegal b (history_of book.entries)
 
--- the book of a legal history is full: it stays as it is, and the pass is told
+-- the firmware's book is full: it stays as it is, and the pass is told
 abbrev pub IsTurnedAway : BoardValue → ℕ → BookView → BookView → PassView → PassView → Type 0
-IsTurnedAway b room book book' p p' =
-    (book' ≡ book) × (p' ≡ told p) × (length book.entries ≡ room)
-    × IsLegal b (history_of book.entries)
+IsTurnedAway b room book book' p p' = IsTurnedAwayOf (IsTold b) room book book' p p'

@@ -1,6 +1,6 @@
 -- What passes count in the ledger of their lock, and what one knows of the book that was told that
 -- it is full.
-use Rattle.std.specs.Prelude.{◌≡◌, ◌≤◌, ◌<◌, ◌+◌, ◌-◌, ◌*◌, ◌%◌, ◌^◌, ℕ, List, [], ◌∷◌, Bool}
+use Rattle.std.specs.Prelude.{◌≡◌, ◌≤◌, ◌<◌, ◌+◌, ◌-◌, ◌%◌, ◌^◌, ℕ, List, [], ◌∷◌, Bool}
 use Rattle.std.specs.Prelude.{true, count_by, if◌then◌else◌}
 use Rattle.psci_shared.specs.Views.{AnyPass}
 

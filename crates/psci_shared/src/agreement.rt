@@ -6,21 +6,22 @@ ghost use Rattle.psci_shared.specs.Agree.{StandsAt, StandsFrom};
 ghost use Rattle.psci_shared.specs.Places.{AllRise, RisesFrom, all_apart, apart};
 ghost use Rattle.psci_shared.specs.Places.{apart_from, begins_at, not_below, places, places_of};
 
-use crate::booked::{Booked, EntryOf, ItemOf, PassBy};
+use crate::answers::{Answers, EntryOf, ItemOf, PassBy};
+use crate::book::BookOf;
 use crate::entry::Item;
 use crate::named::Named;
 use crate::pass::PassOf;
 
 /// Whether the passes agree with the book, and no two have one place.
 #[tactic(auto, using(crate::proofs::Placed::agree_rise))]
-pub fn agree<N: Named, B: Booked, S: Drop>(book: &B, passes: &[PassBy<N, B, S>]) -> bool
-    ensures { IsTrue result ↔ Agree (B.book book.now) passes.now }
+pub fn agree<N: Named, M: Answers, S: Drop>(book: &BookOf<N, M>, passes: &[PassBy<N, M, S>]) -> bool
+    ensures { IsTrue result ↔ Agree book.now passes.now }
 {
     all_agree(book, passes) && all_apart(passes)
 }
 
-fn all_agree<N: Named, B: Booked, S: Drop>(book: &B, passes: &[PassBy<N, B, S>]) -> bool
-    ensures { IsTrue result ↔ AllAgree (B.book book.now) passes.now }
+fn all_agree<N: Named, M: Answers, S: Drop>(book: &BookOf<N, M>, passes: &[PassBy<N, M, S>]) -> bool
+    ensures { IsTrue result ↔ AllAgree book.now passes.now }
 {
     for pass in passes {
         if !agrees(book, pass) {
@@ -30,21 +31,21 @@ fn all_agree<N: Named, B: Booked, S: Drop>(book: &B, passes: &[PassBy<N, B, S>])
     true
 }
 
-fn agrees<N: Named, B: Booked, S: Drop>(book: &B, pass: &PassBy<N, B, S>) -> bool
-    ensures { IsTrue result ↔ Agrees (B.book book.now) pass.now }
+fn agrees<N: Named, M: Answers, S: Drop>(book: &BookOf<N, M>, pass: &PassBy<N, M, S>) -> bool
+    ensures { IsTrue result ↔ Agrees book.now pass.now }
 {
-    if pass.told_full && book.listed().len() != book.most() as usize {
+    if pass.told_full && book.entries().len() != book.room() as usize {
         return false;
     }
-    all_stand::<B>(book.listed(), &pass.core, pass.items())
+    all_stand::<M>(book.entries(), &pass.core, pass.items())
 }
 
-fn all_stand<B: Booked>(entries: &[EntryOf<B>], core: &B::Core, items: &[ItemOf<B>]) -> bool
+fn all_stand<M: Answers>(entries: &[EntryOf<M>], core: &M::Core, items: &[ItemOf<M>]) -> bool
     ensures { IsTrue result ↔ AllStandFrom entries.now core.now 0 items.now }
 {
     let mut from: u64 = 0;
     for item in items {
-        if !stands_from::<B>(entries, core, from, item) {
+        if !stands_from::<M>(entries, core, from, item) {
             return false;
         }
         from = u64::from(item.place) + 1;
@@ -52,22 +53,22 @@ fn all_stand<B: Booked>(entries: &[EntryOf<B>], core: &B::Core, items: &[ItemOf<
     true
 }
 
-fn stands_from<B: Booked>(
-    entries: &[EntryOf<B>],
-    core: &B::Core,
+fn stands_from<M: Answers>(
+    entries: &[EntryOf<M>],
+    core: &M::Core,
     from: u64,
-    item: &ItemOf<B>,
+    item: &ItemOf<M>,
 ) -> bool
     ensures { IsTrue result ↔ StandsFrom entries.now core.now from item.now }
 {
-    from <= u64::from(item.place) && stands_at::<B>(entries.get(item.place as usize), core, item)
+    from <= u64::from(item.place) && stands_at::<M>(entries.get(item.place as usize), core, item)
 }
 
-fn stands_at<B: Booked>(found: Option<&EntryOf<B>>, core: &B::Core, item: &ItemOf<B>) -> bool
+fn stands_at<M: Answers>(found: Option<&EntryOf<M>>, core: &M::Core, item: &ItemOf<M>) -> bool
     ensures { IsTrue result ↔ StandsAt (option_map (λ e. e.now) found.entry) core.now item.now }
 {
     match found {
-        Some(entry) => B::is_of(entry, core, item),
+        Some(entry) => M::is_of(entry, core, item),
         None => false,
     }
 }

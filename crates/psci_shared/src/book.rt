@@ -1,160 +1,51 @@
-//! The firmware with all that it was asked and answered.
+//! A machine with all that it was asked and answered.
 
-use crate::asking::{ask, ask_for};
-use crate::booked::Booked;
-use crate::done::{Done, Said, reply_of};
-use crate::entry::{BookFull, FwEntry, FwItem};
+use crate::answers::{Answers, EntryOf};
 use crate::named::Named;
-use crate::same::{is_same_call, is_same_reply};
-use crate::touching::touch;
-use psci_fw::{Firmware, FwCall, FwReply, law_values};
-use psci_status::{Board, Core, Memory};
+use psci_status::{Board, Memory};
 use std::alloc::Global;
 use std::marker::{Model, PhantomData};
 
-/// A firmware and its book. Each reply in it is the firmware's answer after the entries before.
+/// A machine and its book. Each reply in it is the machine's one reply after the entries before.
 #[derive(Drop)]
-pub struct FwBook<N: Named> {
-    firmware: Firmware,
-    entries: Vec<FwEntry>,
-    room: u32,
-    of: PhantomData<N>,
+pub struct BookOf<N: Named, M: Answers> {
+    pub(crate) machine: M,
+    pub(crate) entries: Vec<EntryOf<M>>,
+    pub(crate) room: u32,
+    pub(crate) of: PhantomData<N>,
 }
 
-impl<N: Named> Model for FwBook<N> {
-    ghost use Rattle.std.specs.Prelude.{vec_capacity};
-    ghost use Rattle.psci_shared.specs.Books.{BookView};
-    ghost use Rattle.psci_shared.specs.Inside.{IsTied};
+impl<N: Named, M: Answers> Model for BookOf<N, M> {
+    ghost use Rattle.std.specs.Prelude.{length, vec_capacity};
+    ghost use Rattle.psci_shared.specs.Room.{HasRoom};
+    ghost use Rattle.psci_shared.specs.Views.{AnyBook};
 
-    ghost Value = { BookView };
+    ghost Value = { AnyBook M.Core M.Call M.Reply };
 
     ghost view = { λ b. record { entries = b.entries.items; room = b.room } };
 
     ghost invariant = { λ b.
-        IsTied N.board b.firmware b.entries.items (vec_capacity b.entries) b.room };
+        M.Has N.board b.machine b.entries.items × M.IsTold N.board b.entries.items
+        × HasRoom (length b.entries.items) (vec_capacity b.entries) b.room };
 }
 
-impl<N: Named> Booked for FwBook<N> {
-    type Core = Core;
+ghost use Rattle.std.specs.Prelude.{◌≡◌, ◌<◌, ◌≤◌, ◌^◌, [], length, IfOk};
 
-    type Call = FwCall;
-
-    type Reply = FwReply;
-
-    ghost book = { λ b. b };
-
-    fn listed(&self) -> &[FwEntry] {
-        self.entries()
-    }
-
-    fn most(&self) -> u32 {
-        self.room
-    }
-
-    fn is_of(entry: &FwEntry, core: &Core, item: &FwItem) -> bool {
-        let same_call = is_same_call(&entry.call, &item.call);
-        let same_reply = is_same_reply(&entry.reply, &item.reply);
-        entry.core == *core && same_call && same_reply
-    }
-}
-
-ghost use Rattle.std.specs.Prelude.{◌≡◌, ◌<◌, ◌≤◌, ◌+◌, ◌^◌, List, [], ◌∷◌, ◌++◌, length};
-ghost use Rattle.std.specs.Prelude.{IfOk, OnOk, OnErr, vec_len, vec_capacity};
-ghost use Rattle.psci_fw.specs.Seen.{seen};
-ghost use Rattle.psci_fw.specs.psci_fw_spec.History.{life, values_of};
-ghost use Rattle.psci_fw.specs.psci_fw_spec.Legal.{IsLegal};
-ghost use Rattle.psci_shared.specs.Passes.{Fits};
-ghost use Rattle.psci_shared.specs.Views.{entered, item};
-ghost use Rattle.psci_shared.specs.Locked.{IsDone, Pushed, reply_said};
-ghost use Rattle.psci_shared.specs.Entries.{FwEntry};
-ghost use Rattle.psci_shared.specs.Books.{answer_after, entry, history_of};
-
-impl<N: Named> FwBook<N> {
-    /// A firmware of this board that was asked nothing, and a book with room for so many entries.
-    /// It takes the memory of all its calls here.
-    #[tactic(auto, using(crate::proofs::Histories::history_none))]
-    pub fn new(alloc: Global, board: &Board, room: u32) -> Result<FwBook<N>, Memory>
+impl<N: Named, M: Answers> BookOf<N, M> {
+    /// A machine of this board that was asked nothing, and a book with room for so many entries. It
+    /// takes the memory of all its calls here.
+    pub fn new(alloc: Global, board: &Board, room: u32) -> Result<BookOf<N, M>, Memory>
         requires board { board.now ≡ N.board }
         ensures { IfOk result (λ b. b ≡ record { entries = []; room = room }) }
     {
-        law_values();
-        let firmware = Firmware::new(alloc, board)?;
+        let machine = M::open(alloc, board)?;
         let entries = Vec::with_capacity(alloc, room as usize)?;
-        Ok(FwBook {
-            firmware,
+        Ok(BookOf {
+            machine,
             entries,
             room,
             of: PhantomData,
         })
-    }
-
-    /// Carries out a call of this core and enters it, unless the book is full.
-    #[tactic(auto, using(crate::proofs::Histories::history_more))]
-    pub fn step(&mut self, ticket: u64, core: Core, call: FwCall) -> Result<FwReply, BookFull>
-        ensures reply { IfOk result (λ reply. reply
-            ≡ answer_after N.board self.old.entries core.number call) }
-        ensures fits { IfOk result (λ reply. Fits call reply) }
-        ensures ok { IfOk result (λ reply. self.new
-            ≡ entered self.old (entry ticket core call reply)) }
-        ensures room { OnOk result (length self.old.entries < self.old.room) }
-        ensures full { OnErr result
-            ((length self.old.entries ≡ self.old.room) × (self.new ≡ self.old)) }
-    {
-        if self.entries.len() == self.room as usize {
-            return Err(BookFull);
-        }
-        law_values();
-        let reply = ask(&mut self.firmware, core, &call);
-        self.entries
-            .push_reserved(FwEntry::of(ticket, core, call, reply.copy()));
-        Ok(reply)
-    }
-
-    /// The same for a pass, where neither is full; the call goes into its list as well, and the
-    /// message stays in its slot. `A` is for the compiler, as in all that is done under the lock:
-    /// so each kind of call has its own.
-    #[tactic(auto, using(crate::proofs::Histories::history_more))]
-    pub(crate) fn carry_out<A>(
-        &mut self,
-        items: &mut Vec<FwItem>,
-        place: u32,
-        ticket: u64,
-        core: Core,
-        call: FwCall,
-    ) -> Done
-        requires room { (length self.old.entries < self.old.room)
-            × (vec_len items.old < vec_capacity items.old) }
-        ensures done { IsDone core call
-            (answer_after N.board self.old.entries core.number call) N.board
-            (values_of N.board (history_of self.new.entries)) result }
-        ensures book { self.new ≡ entered self.old
-            (entry ticket core call (answer_after N.board self.old.entries core.number call)) }
-        ensures items { Pushed items.old items.new (item place call
-            (answer_after N.board self.old.entries core.number call)) }
-    {
-        law_values();
-        let FwBook {
-            firmware,
-            entries,
-            room: _,
-            of: _,
-        } = self;
-        ask_for::<A>(firmware, entries, items, place, ticket, core, call)
-    }
-
-    /// The reply to the last call, of which this was said.
-    pub(crate) fn reply_of(&self, said: Said) -> FwReply
-        ensures { result
-            ≡ reply_said N.board (values_of N.board (history_of self.now.entries)) said }
-    {
-        reply_of(&self.firmware, said)
-    }
-
-    /// Writes to the memory of all entries that there is room for.
-    pub(crate) fn touch(&mut self)
-        ensures { self.new ≡ self.old }
-    {
-        touch(&mut self.entries, self.room, || FwEntry::blank());
     }
 
     /// How many entries there are.
@@ -162,7 +53,7 @@ impl<N: Named> FwBook<N> {
         ensures len { result ≡ length self.now.entries }
         ensures within { length self.now.entries ≤ self.now.room }
         ensures small { length self.now.entries < 2 ^ 32 }
-        ensures legal { IsLegal N.board (history_of self.now.entries) }
+        ensures legal { M.IsTold N.board self.now.entries }
     {
         self.entries.len() as u32
     }
@@ -174,28 +65,26 @@ impl<N: Named> FwBook<N> {
         self.room
     }
 
-    /// The entries. Each reply is the answer after the entries before it.
-    pub fn entries(&self) -> &[FwEntry]
+    /// The entries. Each reply is the one reply after the entries before it.
+    pub fn entries(&self) -> &[EntryOf<M>]
         ensures entries { result.now ≡ self.now.entries }
         ensures within { length self.now.entries ≤ self.now.room }
-        ensures legal { IsLegal N.board (history_of self.now.entries) }
+        ensures legal { M.IsTold N.board self.now.entries }
     {
         self.entries.as_slice()
     }
 
-    /// The firmware, to look at.
-    pub(crate) fn firmware(&self) -> &Firmware
-        ensures board { result.now.board ≡ N.board }
-        ensures values { seen result.now ≡ values_of N.board (history_of self.now.entries) }
+    /// The entries alone.
+    pub fn into_entries(self) -> Vec<EntryOf<M>>
+        ensures entries { result.items ≡ self.entries }
+        ensures legal { M.IsTold N.board self.entries }
     {
-        &self.firmware
-    }
-
-    /// The firmware's life, 0 before any core has entered.
-    #[tactic(auto, unfolding(psci_fw_spec::specs::History::values_of))]
-    pub fn life(&self) -> u32
-        ensures { result ≡ life N.board (history_of self.now.entries) }
-    {
-        self.firmware.life().unwrap_or(0)
+        let BookOf {
+            machine: _,
+            entries,
+            room: _,
+            of: _,
+        } = self;
+        entries
     }
 }

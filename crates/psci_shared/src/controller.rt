@@ -3,13 +3,11 @@
 
 mod book;
 mod entry;
-mod gather;
 mod locked;
 mod shared;
 
 pub use book::CtlBook;
 pub use entry::{CtlEntry, CtlItem, CtlPass};
-pub use gather::{CtlBooks, CtlGatherFault};
-pub use locked::CtlLocked;
+pub use locked::{CtlBooks, CtlGatherFault, CtlLocked};
 pub use psci_ctl::{CtlCall, CtlReply, Delivery, Kick, Message};
 pub use shared::SharedController;

@@ -1,7 +1,6 @@
 //! Passes are gathered with the book.
 
 ghost use Rattle.std.specs.Prelude.{◌≡◌, length, map, IfErr, IfOk, MatchResult};
-ghost use Rattle.std.specs.Prelude.{IfSome, IfNone};
 ghost use Rattle.psci_status.specs.Seats.{table, table_of_writer, written};
 ghost use Rattle.psci_status.specs.Lists.{newest};
 ghost use Rattle.psci_shared.specs.Agree.{Agree};
@@ -9,11 +8,9 @@ ghost use Rattle.psci_shared.specs.Gathers.{AllSeen, AllStand, AreMet, IsCause, 
 ghost use Rattle.psci_shared.specs.Places.{AllPlaced};
 ghost use Rattle.psci_shared.specs.Told.{FullIfTold};
 
-use crate::book::FwBook;
-use crate::fault::GatherCause;
+use crate::firmware::FwBook;
 use crate::gathered::{BooksOf, GatherFaultOf};
 use crate::locked::FwLocked;
-use crate::made::Made;
 use crate::named::Named;
 use crate::seen::Pass;
 use crate::shared::SharedFirmware;
@@ -55,49 +52,26 @@ impl<'t, N: Named> SharedFirmware<'t, N> {
         let (mut locked, words, mut made) = self.into_parts();
         let mut passes = passes;
         locked.meet(&words, &mut passes);
-        if let Some(cause) = locked.cause(&mut made, &mut passes) {
-            return Err(GatherFault::of(cause, locked, words, made.count(), passes));
-        }
-        let book = locked.into_book();
-        Ok(Books { book, passes })
-    }
-}
-
-impl<N: Named> FwLocked<N> {
-    /// Why the passes are not gathered, if they are not.
-    fn cause(&mut self, made: &mut Made<N>, passes: &mut Vec<Pass<N>>) -> Option<GatherCause>
-        ensures same { (self.new.book ≡ self.old.book) × (made.new ≡ made.old) }
-        ensures passes { passes.new.items ≡ passes.old.items }
-        ensures cause { IfSome result (λ c. IsCause c (Agree self.old.book passes.old.items)
-            (length passes.old.items) made.old) }
-        ensures all { IfNone result (length passes.old.items ≡ made.old) }
-        ensures agree { IfNone result (Agree self.old.book passes.old.items
-            × (length self.old.book.entries ≡ items_of passes.old.items)) }
-        ensures placed { IfNone result (AllPlaced self.old.book passes.old.items) }
-        ensures full { FullIfTold (length self.old.book.entries) N.room passes.old.items }
-    {
         let FwLocked {
             book,
             writer: _,
             count: _,
             tally,
-        } = self;
-        tally.cause(book, made, passes)
-    }
-
-    /// The book alone.
-    pub(crate) fn into_book(self) -> FwBook<N>
-        ensures { result ≡ self.book }
-    {
+        } = &mut locked;
+        if let Some(cause) = tally.cause(book, &mut made, &mut passes) {
+            return Err(GatherFault::of(cause, locked, words, made.count(), passes));
+        }
         let FwLocked {
             book,
             writer: _,
             count: _,
             tally: _,
-        } = self;
-        book
+        } = locked;
+        Ok(Books { book, passes })
     }
+}
 
+impl<N: Named> FwLocked<N> {
     /// The writer is told what each pass has seen.
     pub(crate) fn meet(&mut self, words: &StatusWords, passes: &mut Vec<Pass<N>>)
         requires { table words.now ≡ N.table }

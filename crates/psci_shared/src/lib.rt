@@ -9,18 +9,19 @@
 //! - Passes are *gathered* with the book once all calls are done, and each place then stands in one
 //!   pass.
 //!
-//! Entries, items, passes, their ledger and how they are gathered are of any machine, whose book is
-//! [`Booked`]; the firmware has them by names of its own.
+//! Entries, books, items, passes, their ledger and how they are gathered are of any machine that
+//! [`Answers`]; the firmware and the power controller have them by names of their own.
 #![tactic(auto)]
 
 mod agreement;
+mod answers;
 mod asking;
 mod book;
-mod booked;
 mod controller;
 mod done;
 mod entry;
 mod fault;
+mod firmware;
 mod gather;
 mod gathered;
 mod laws;
@@ -38,14 +39,15 @@ mod touching;
 mod writing;
 
 pub use agreement::agree;
-pub use book::FwBook;
-pub use booked::Booked;
+pub use answers::Answers;
+pub use book::BookOf;
 pub use controller::{
     CtlBook, CtlBooks, CtlCall, CtlEntry, CtlGatherFault, CtlItem, CtlLocked, CtlPass, CtlReply,
     Delivery, Kick, Message, SharedController,
 };
 pub use entry::{BookFull, Entry, FwEntry, FwItem, Item};
 pub use fault::{CallFault, GatherCause, PassFault};
+pub use firmware::FwBook;
 pub use gather::{Books, GatherFault};
 pub use gathered::{BooksOf, GatherFaultOf};
 pub use laws::{law_own_calls, law_polls};

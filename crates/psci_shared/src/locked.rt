@@ -8,8 +8,8 @@ ghost use Rattle.psci_shared.specs.Locked.{IsEntered, IsReply, IsTurnedAway};
 ghost use Rattle.psci_shared.specs.Told.{IsTotal};
 ghost use Rattle.psci_shared.specs.Writing.{IsWritten};
 
-use crate::book::FwBook;
 use crate::entry::BookFull;
+use crate::firmware::FwBook;
 use crate::named::Named;
 use crate::seen::{Pass, Seen};
 use crate::tally::Tally;

@@ -17,9 +17,9 @@ ghost use Rattle.psci_shared.specs.Passes.{IsRefused};
 ghost use Rattle.psci_shared.specs.Views.{told};
 ghost use Rattle.psci_shared.specs.Polls.{IsPolled};
 
-use crate::book::FwBook;
 use crate::entry::{BookFull, FwEntry};
 use crate::fault::{CallFault, PassFault};
+use crate::firmware::FwBook;
 use crate::locked::{FwLocked, locked_of};
 use crate::made::{MOST_PASSES, Made};
 use crate::named::Named;

@@ -1,7 +1,8 @@
 //! How many items passes have in all, and which of them were told that the book is full.
 
 use crate::agreement::agree;
-use crate::booked::{Booked, PassBy};
+use crate::answers::{Answers, PassBy};
+use crate::book::BookOf;
 use crate::entry::{BookFull, Item};
 use crate::fault::GatherCause;
 use crate::made::Made;
@@ -108,27 +109,27 @@ impl<N: Named> Tally<N> {
     /// Why passes are not gathered with a book. Where they are, as many came as were made, and each
     /// place stands in one of them. The book is full if one of them was told so.
     #[tactic(auto, using(crate::proofs::Placed::all_placed))]
-    pub fn cause<B: Booked, S: Drop>(
+    pub fn cause<M: Answers, S: Drop>(
         &mut self,
-        book: &B,
+        book: &BookOf<N, M>,
         made: &mut Made<N>,
-        passes: &mut Vec<PassBy<N, B, S>>,
+        passes: &mut Vec<PassBy<N, M, S>>,
     ) -> Option<GatherCause>
-        requires { IsTotal (length (B.book book.now).entries) (B.book book.now).room self.old }
+        requires { IsTotal (length book.now.entries) book.now.room self.old }
         ensures tally { (self.new ≡ self.old) × (made.new ≡ made.old) }
         ensures passes { passes.new.items ≡ passes.old.items }
-        ensures cause { IfSome result (λ c. IsCause c (Agree (B.book book.now) passes.old.items)
+        ensures cause { IfSome result (λ c. IsCause c (Agree book.now passes.old.items)
             (length passes.old.items) made.old) }
         ensures all { IfNone result (length passes.old.items ≡ made.old) }
-        ensures agree { IfNone result (Agree (B.book book.now) passes.old.items
-            × (length (B.book book.now).entries ≡ items_of passes.old.items)) }
-        ensures placed { IfNone result (AllPlaced (B.book book.now) passes.old.items) }
-        ensures full { FullIfTold (length (B.book book.now).entries) (B.book book.now).room
+        ensures agree { IfNone result (Agree book.now passes.old.items
+            × (length book.now.entries ≡ items_of passes.old.items)) }
+        ensures placed { IfNone result (AllPlaced book.now passes.old.items) }
+        ensures full { FullIfTold (length book.now.entries) book.now.room
             passes.old.items }
     {
         let all_agree = agree(book, passes);
-        let room = book.most();
-        let len = book.listed().len() as u32;
+        let room = book.room();
+        let len = book.len();
         count_all(
             &mut self.total,
             passes.as_mut_slice(),

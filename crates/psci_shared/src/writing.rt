@@ -6,7 +6,7 @@ ghost use Rattle.psci_status.specs.Lists.{row};
 ghost use Rattle.psci_status.specs.Seats.{table, table_of_writer, written};
 ghost use Rattle.psci_shared.specs.Writing.{IsOneBehind, written_after};
 
-use crate::book::FwBook;
+use crate::firmware::FwBook;
 use crate::named::Named;
 use psci_status::{Core, StatusWords, Writer, write_changed};
 

@@ -1,48 +1,30 @@
-//! The power controller with all that it was asked and answered.
+//! The power controller's book.
 
 use crate::controller::entry::{CtlEntry, CtlItem, is_same_call, is_same_reply};
-use crate::{Board, BookFull, Booked, Core, Memory, Named};
+use crate::{Answers, Board, BookFull, BookOf, Core, Memory, Named};
 use psci_ctl::{Controller, CtlCall, CtlReply, Start, law_values};
 use std::alloc::Global;
-use std::marker::{Model, PhantomData};
 
 /// A power controller and its book. Each reply in it is the one reply after the entries before.
-#[derive(Drop)]
-pub struct CtlBook<N: Named> {
-    controller: Controller,
-    entries: Vec<CtlEntry>,
-    room: u32,
-    of: PhantomData<N>,
-}
+pub type CtlBook<N> = BookOf<N, Controller>;
 
-impl<N: Named> Model for CtlBook<N> {
-    ghost use Rattle.std.specs.Prelude.{vec_capacity};
-    ghost use Rattle.psci_shared.specs.CtlBooks.{BookView};
-    ghost use Rattle.psci_shared.specs.CtlInside.{IsTied};
+impl Answers for Controller {
+    ghost use Rattle.psci_shared.specs.CtlBooks.{Has, IsTold};
 
-    ghost Value = { BookView };
-
-    ghost view = { λ b. record { entries = b.entries.items; room = b.room } };
-
-    ghost invariant = { λ b.
-        IsTied N.board b.controller b.entries.items (vec_capacity b.entries) b.room };
-}
-
-impl<N: Named> Booked for CtlBook<N> {
     type Core = ();
 
     type Call = CtlCall;
 
     type Reply = CtlReply;
 
-    ghost book = { λ b. b };
+    ghost Has = { λ b c entries. Has b c entries };
 
-    fn listed(&self) -> &[CtlEntry] {
-        self.entries()
-    }
+    ghost IsTold = { λ b entries. IsTold b entries };
 
-    fn most(&self) -> u32 {
-        self.room
+    #[tactic(auto, using(crate::proofs::Histories::controls_none))]
+    fn open(alloc: Global, board: &Board) -> Result<Controller, Memory> {
+        law_values();
+        Controller::new(alloc, board)
     }
 
     fn is_of(entry: &CtlEntry, _core: &(), item: &CtlItem) -> bool {
@@ -52,9 +34,9 @@ impl<N: Named> Booked for CtlBook<N> {
     }
 }
 
-ghost use Rattle.std.specs.Prelude.{◌≡◌, ◌<◌, ◌≤◌, ◌^◌, [], ◌∷◌, ◌++◌, length, IfOk, OnOk, OnErr};
-ghost use Rattle.psci_ctl.specs.Seen.{seen};
+ghost use Rattle.std.specs.Prelude.{◌≡◌, ◌<◌, length, IfOk, OnOk, OnErr};
 ghost use Rattle.psci_board.specs.Board.{cores};
+ghost use Rattle.psci_ctl.specs.Seen.{seen};
 ghost use Rattle.psci_ctl.specs.psci_ctl_spec.Changes.{after};
 ghost use Rattle.psci_ctl.specs.psci_ctl_spec.History.{values_of};
 ghost use Rattle.psci_ctl.specs.psci_ctl_spec.Legal.{IsCall, IsLegal};
@@ -65,26 +47,8 @@ ghost use Rattle.psci_shared.specs.CtlLocked.{IsReply};
 ghost use Rattle.psci_shared.specs.CtlPasses.{Fits};
 
 impl<N: Named> CtlBook<N> {
-    /// A power controller of this board that was asked nothing, and a book with room for so many
-    /// entries. It takes the memory of all its calls here.
-    #[tactic(auto, using(crate::proofs::CtlHistories::history_none))]
-    pub fn new(alloc: Global, board: &Board, room: u32) -> Result<CtlBook<N>, Memory>
-        requires board { board.now ≡ N.board }
-        ensures { IfOk result (λ b. b ≡ record { entries = []; room = room }) }
-    {
-        law_values();
-        let controller = Controller::new(alloc, board)?;
-        let entries = Vec::with_capacity(alloc, room as usize)?;
-        Ok(CtlBook {
-            controller,
-            entries,
-            room,
-            of: PhantomData,
-        })
-    }
-
     /// Carries out a call of this board and enters it, unless the book is full.
-    #[tactic(auto, using(crate::proofs::CtlHistories::history_more))]
+    #[tactic(auto, using(crate::proofs::Histories::controls_more))]
     pub fn step(&mut self, ticket: u64, call: CtlCall) -> Result<CtlReply, BookFull>
         requires { IsCall N.board call }
         ensures reply { IfOk result (λ reply. IsReply N.board self.old.entries call reply) }
@@ -98,7 +62,7 @@ impl<N: Named> CtlBook<N> {
             return Err(BookFull);
         }
         law_values();
-        let reply = ask(&mut self.controller, &call);
+        let reply = ask(&mut self.machine, &call);
         self.entries.push_reserved(CtlEntry {
             ticket,
             core: (),
@@ -108,32 +72,6 @@ impl<N: Named> CtlBook<N> {
         Ok(reply)
     }
 
-    /// How many entries there are.
-    pub fn len(&self) -> u32
-        ensures len { result ≡ length self.now.entries }
-        ensures within { length self.now.entries ≤ self.now.room }
-        ensures small { length self.now.entries < 2 ^ 32 }
-        ensures legal { IsLegal N.board (history_of self.now.entries) }
-    {
-        self.entries.len() as u32
-    }
-
-    /// How many entries there is room for.
-    pub fn room(&self) -> u32
-        ensures { result ≡ self.now.room }
-    {
-        self.room
-    }
-
-    /// The entries. Each reply is the one reply after the entries before it.
-    pub fn entries(&self) -> &[CtlEntry]
-        ensures entries { result.now ≡ self.now.entries }
-        ensures within { length self.now.entries ≤ self.now.room }
-        ensures legal { IsLegal N.board (history_of self.now.entries) }
-    {
-        self.entries.as_slice()
-    }
-
     /// The last start of a core in this life, if there is a life and a start.
     pub fn started(&self, core: Core) -> Option<Start>
         requires { core.number < cores N.board }
@@ -141,7 +79,7 @@ impl<N: Named> CtlBook<N> {
             ≡ last_start (values_of N.board (history_of self.now.entries)) core.number }
         ensures legal { IsLegal N.board (history_of self.now.entries) }
     {
-        self.controller.started(core)
+        self.machine.started(core)
     }
 }
 

@@ -7,7 +7,7 @@ ghost use Rattle.psci_shared.specs.Told.{IsTotal};
 
 use crate::controller::book::CtlBook;
 use crate::controller::entry::{CtlItem, CtlPass};
-use crate::{BookFull, Named, Tally};
+use crate::{BookFull, BooksOf, GatherFaultOf, Named, Tally};
 use psci_ctl::{CtlCall, CtlReply};
 
 /// The power controller with its book, and the ledger, which counts the entries, and each pass that
@@ -45,6 +45,12 @@ impl<N: Named> CtlLocked<N> {
         Ok(reply)
     }
 }
+
+/// All that a power controller was asked: each place of the book stands in one pass.
+pub type CtlBooks<N> = BooksOf<CtlBook<N>, CtlPass<N>>;
+
+/// Why passes were not gathered, with all that was handed in.
+pub type CtlGatherFault<N> = GatherFaultOf<CtlLocked<N>, (), CtlPass<N>>;
 
 /// What the lock of a new power controller guards.
 pub(crate) fn locked_of<N: Named>(book: CtlBook<N>, tally: Tally<N>) -> CtlLocked<N>

@@ -20,8 +20,7 @@ ghost use Rattle.psci_shared.specs.CtlPasses.{Fits, IsCalled, IsNoPass};
 
 use crate::controller::book::CtlBook;
 use crate::controller::entry::CtlPass;
-use crate::controller::gather::{CtlBooks, CtlGatherFault};
-use crate::controller::locked::{CtlLocked, locked_of};
+use crate::controller::locked::{CtlBooks, CtlGatherFault, CtlLocked, locked_of};
 use crate::{Board, BookFull, Core, MOST_PASSES, Made, Memory, Named, PassFault, Tally, Tickets};
 use psci_ctl::{CtlCall, CtlReply, Delivery, Kick, Message, Start};
 use std::alloc::Global;
@@ -194,13 +193,12 @@ impl<'t, N: Named> SharedController<'t, N> {
     {
         let (mut locked, mut made) = self.into_parts();
         let mut passes = passes;
-        if let Some(cause) = locked.cause(&mut made, &mut passes) {
+        let CtlLocked { book, tally } = &mut locked;
+        if let Some(cause) = tally.cause(book, &mut made, &mut passes) {
             return Err(CtlGatherFault::of(cause, locked, (), made.count(), passes));
         }
-        Ok(CtlBooks {
-            book: locked.into_book(),
-            passes,
-        })
+        let CtlLocked { book, tally: _ } = locked;
+        Ok(CtlBooks { book, passes })
     }
 
     /// A call of this board, under the lock.

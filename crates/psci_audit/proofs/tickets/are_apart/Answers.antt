@@ -1,6 +1,6 @@
 -- The lower of two tickets that rise is left behind.
 use Rattle.std.proofs.Common.{refl, arith}
-use Rattle.psci_audit.specs.Merged.{tickets_by, tickets_of}
+use Rattle.psci_audit.specs.Merged.{tickets_of}
 use Rattle.psci_audit.proofs.Apart.{both, next_ones, next_others, none_here, none_there, parts}
 use Rattle.psci_audit.proofs.Apart.{same_ones}
 use Rattle.psci_audit.proofs.tickets.are_apart.Goals as goal
@@ -55,6 +55,6 @@ loop-ones-preserved c =
 pub returns : goal.returns
 returns c = (
   λ t. c.loop-ones.invariant.apart.0 (none_here c.loop-ones.ones.now
-      (tickets_by c.loop-ones.others.now) c.in_default.len_below),
+      (tickets_of c.loop-ones.others.now) c.in_default.len_below),
   λ apart. refl,
 )

@@ -6,5 +6,5 @@ use Rattle.psci_shared.proofs.agreement.all_agree.Given as goal
 
 abbrev pub invariant-loop-pass : goal.invariant-loop-pass
 invariant-loop-pass g l =
-    AllAgree (g.B.Booked.book l.book) (drop l.pass-index l.passes)
-    ↔ AllAgree (g.B.Booked.book l.book) l.passes
+    AllAgree l.book (drop l.pass-index l.passes)
+    ↔ AllAgree l.book l.passes

@@ -9,7 +9,7 @@ use Rattle.psci_shared.proofs.tally.Tally.cause.Given as given
 use Rattle.psci_shared.proofs.tally.Tally.cause.Goals as goal
 
 same : (g : given.Over) (c : goal.Else-len-from g)
-    → length (g.B.Booked.book c.args.book.now).entries ≡ items_of c.args.passes.now.items
+    → length c.args.book.now.entries ≡ items_of c.args.passes.now.items
 same g c =
     let counted = c.count_all.ensures in
     let passes = c.as_mut_slice.result.now in
@@ -25,24 +25,24 @@ same g c =
       c.count.ensures,
     ) in
     let few : length passes ≤ 1001 = omega (arith, counted.few, c.made.invariant) in
-    let low : length (g.B.Booked.book c.args.book.now).entries < 2 ^ 32 =
-    omega (arith, c.listed.ensures.within, c.most-room.ensures, c.most-room.type_inv) in
+    let low : length c.args.book.now.entries < 2 ^ 32 =
+    c.len-len.ensures.small in
     let all : items_of passes + 2 ^ 48 * told_of passes ≡ c.args.self.now =
     omega (arith, counted.all came, c.made.invariant, c.self.view_is) in
-    subst (λ ps. length (g.B.Booked.book c.args.book.now).entries ≡ items_of ps)
+    subst (λ ps. length c.args.book.now.entries ≡ items_of ps)
     c.as_mut_slice.ensures.value
     (as_many _ _ _ (items_of passes) (told_of passes) (length passes) c.requires low counted.small
     few all)
 
 agrees : (g : given.Over) (c : goal.Else-len-from g)
-    → Agree (g.B.Booked.book c.args.book.now) c.args.passes.now.items
+    → Agree c.args.book.now c.args.passes.now.items
 agrees g c =
-    subst (λ ps. Agree (g.B.Booked.book c.args.book.now) ps) c.deref.ensures.value
+    subst (λ ps. Agree c.args.book.now ps) c.deref.ensures.value
     (c.agree-all_agree.ensures.0 (search rules))
 
 pub returns-clause-agree : goal.returns-clause-agree
 returns-clause-agree g c = (agrees g c, same g c)
 
 pub returns-clause-placed : goal.returns-clause-placed
-returns-clause-placed g c = all_placed (g.B.Booked.book c.args.book.now) c.args.passes.now.items
+returns-clause-placed g c = all_placed c.args.book.now c.args.passes.now.items
     (agrees g c) (same g c)
