@@ -9,6 +9,7 @@ ghost use Rattle.psci_ctl_spec.specs.Effects.{Begins, Ends, message_effect};
 ghost use Rattle.psci_ctl_spec.specs.Legal.{IsOfBoard};
 ghost use Rattle.psci_ctl_spec.specs.Parts.{applied, is_covered, is_stale, laid};
 ghost use Rattle.psci_ctl_spec.specs.Replies.{ack_by, ack_of, may_follow, may_start};
+ghost use Rattle.psci_messages.specs.psci_state.Ask.{power_down};
 ghost use Rattle.psci_messages.specs.declared.start.Cause.TheVariants.{On};
 ghost use Rattle.psci_ctl_spec.specs.Values.{starts_below};
 ghost use Rattle.psci_ctl.specs.Rows.{deepened};
@@ -114,7 +115,7 @@ impl Controller {
     /// This domain goes to this depth.
     fn deepen(&mut self, node: Node, depth: u8)
         requires node { HasNode self.old.board node }
-        requires depth { depth ≤ 3 }
+        requires depth { depth ≤ power_down }
         ensures { Leaves self.old self.new (record (seen self.old) {
           depth = deepened node depth (seen self.old).depth;
         }) }

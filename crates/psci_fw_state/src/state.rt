@@ -5,6 +5,7 @@ use crate::row::{CoreRow, first_rows, row_of};
 use psci_board::{Board, Core, Memory, Node};
 use psci_fw_spec::{FwFault, Hw, Opening, Status, SuspendMode};
 use psci_messages::{Message, Slots};
+use psci_state::POWER_DOWN;
 use psci_tree::{Activity, Tree, law_start_of_life};
 use std::alloc::Global;
 use std::marker::Model;
@@ -196,7 +197,7 @@ impl State {
             return Hw::On;
         }
         match self.granted(node) {
-            3 => Hw::Off,
+            POWER_DOWN => Hw::Off,
             0 => Hw::On,
             _ => Hw::Standby,
         }

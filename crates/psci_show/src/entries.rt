@@ -7,6 +7,7 @@ use crate::depth::Depths;
 use crate::domain::write_node;
 use crate::run::Run;
 use crate::state::Activity;
+use psci_state::POWER_DOWN;
 use psci_world::{Core, Node};
 use std::alloc::AllocError;
 
@@ -41,7 +42,7 @@ fn write_entry(out: &mut String, run: &Run, node: Node) -> Result<(), AllocError
 /// Whether the depth of a core or power domain is said.
 fn is_said(node: Node, depths: Depths) -> bool {
     let Depths { depth, granted } = depths;
-    depth != granted || (node.level > 0 && depth != 3)
+    depth != granted || (node.level > 0 && depth != POWER_DOWN)
 }
 
 /// Writes a depth, with a mark behind it where another one was granted.

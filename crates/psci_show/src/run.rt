@@ -3,6 +3,7 @@
 use crate::depth::Depths;
 use crate::sleep::{Sleep, note};
 use crate::state::Activity;
+use psci_state::POWER_DOWN;
 use psci_world::{Board, Core, Event, Memory, Node, Record, Said, World};
 use std::alloc::{AllocError, Global};
 use std::marker::Model;
@@ -81,8 +82,8 @@ impl Run {
         requires { HasNode self.now.board node }
     {
         Depths::of(&self.world, node).unwrap_or(Depths {
-            depth: 3,
-            granted: 3,
+            depth: POWER_DOWN,
+            granted: POWER_DOWN,
         })
     }
 }
