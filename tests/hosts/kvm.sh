@@ -108,7 +108,8 @@ kvm_moves() {
 # lists that are judged, whose ports are compared; Linux; and one of the planted faults, another with each commit
 kvm_live() {
     local faults fault took words=(each idle suspend-5) begun=$SECONDS
-    local lists=(affinity down-01 lives mode off on-race on-twice refusals standby storm-1 storm-down-1 system-suspend)
+    local lists=(affinity down-01 lives mode off on-race on-twice refusals standby storm-1 storm-down-1 system-suspend
+        tests/program/lists/second-life.list)
     can_boot && [ -e "$cache/trixie/packages/bin/busybox" ] || { skip "guests of KVM" "$cache/trixie"; return; }
     lists_agree ours-on-kvm -- "${lists[@]}"
     if [ -e "$cache/trixie/kexec/fetched" ]; then words+=(kexec each); else
