@@ -138,7 +138,7 @@ class Front:
         name = WHOLE if asked.what else REPLAYER
         if is_current(name):
             return 0
-        which, minutes = ("the whole program", "20 to 30") if asked.what else ("the program of replay", "about 12")
+        which, minutes = ("the whole program", "about 13") if asked.what else ("the program of replay", "about 7")
         say(f"proving {which}: from nothing {minutes} minutes on four processors")
         return self.by_prover([name], "built; ./psci runs it from now on")
 

@@ -320,8 +320,8 @@ def compare():
 def prove():
     words = Words("prove", "Proves and builds what ./psci runs; proved crates are kept in ~/.cache/gumdarts.",
                   "[all | lib [--target MACHINE] [--unproved]]",
-                  "prove        the program of replay: about 12 minutes\n"
-                  "prove all    the program of every command: 20 to 30 minutes\n"
+                  "prove        the program of replay: about 7 minutes\n"
+                  "prove all    the program of every command: about 13 minutes\n"
                   "prove lib    the C library, into out/lib; with --unproved in a minute, marked as unproved\n\n"
                   f"{MINUTES}\n")
     words.add_argument("what", metavar="WHAT", nargs="?", type=one_of("all", "lib"),
