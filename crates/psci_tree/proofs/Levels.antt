@@ -6,7 +6,7 @@ use Rattle.psci_tree.proofs.Words.{kept_at, length, length-set, level_kept, List
 use Rattle.psci_tree.proofs.Words.{◌∷◌, ◌^◌, AreKept, recount, refl, set, size_below, span}
 use Rattle.psci_tree.proofs.Words.{SpanLaws, states_in, sym}
 use Rattle.psci_tree.proofs.Words.{with_kept, ℕ}
-use Rattle.psci_tree.specs.Kept.{IsTurn}
+use Rattle.psci_tree.specs.Kept.{IsChanged, IsTurn}
 use Rattle.psci_tree.proofs.Slices.{size_few}
 use Rattle.psci_tree.proofs.Spans.{outside, slice_place, states_long, states_off, states_on, within}
 use Rattle.psci_tree.proofs.Spans.{Within}
@@ -51,13 +51,6 @@ module _ (rows : List (List Kept)) (l p : ℕ) (k : Kept) (low : 0 < l) (high : 
       ap (λ (row : List Kept). get_or row q (recount [])) (other_level m some n)
 
 -- Level by level ---------------------------------------------------------------------------------
-
--- the domains below this level keep what is so of the new states, and those from it up of the old
-pub record IsChanged (levels : List (List ℕ)) (old new : List CoreState) (rows : List (List Kept))
-    (level : ℕ) : Type 0 where
-  pub shape : HasRows levels rows
-  pub done : (l : ℕ) → 0 < l → l < level → l ≤ length levels → IsKeptOn levels new rows l
-  pub left : (l : ℕ) → 0 < l → level ≤ l → l ≤ length levels → IsKeptOn levels old rows l
 
 -- a core that came into another state
 pub record OneChanged (levels : List (List ℕ)) (old : List CoreState) (core : ℕ) (s : CoreState)

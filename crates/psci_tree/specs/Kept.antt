@@ -1,7 +1,7 @@
 -- What a domain keeps of the cores below it, so that they need not be counted again.
 use Rattle.std.specs.Prelude.{◌≡◌, ℕ, ◌+◌, ◌-◌, ◌*◌, ◌^◌, ◌<◌, ◌≤◌, min, List, [], ◌∷◌, length, map}
 use Rattle.std.specs.Prelude.{slice_index, slice_index_or, slice_set, take, drop, replicate}
-use Rattle.std.specs.Prelude.{Option, Some, None, nat_lt, ◌==◌, if◌then◌else◌}
+use Rattle.std.specs.Prelude.{Option, Some, None, option_map, nat_lt, ◌==◌, if◌then◌else◌}
 use Rattle.std.specs.List.{All, sum_by, count_by}
 use Rattle.psci_board.specs.declared.node.Node.{Node}
 use Rattle.psci_board.specs.Board.{HasNodeIn, size_below, span}
@@ -43,11 +43,24 @@ abbrev pub lows_told : Kept → Kept → Option (List ℕ)
 lows_told k one = if nat_lt 0 k.active then Some (0 ∷ 0 ∷ 0 ∷ 0 ∷ [])
     else if k.off + 1 == k.cores + one.off then Some one.lows else None
 
+-- what is kept of them then, where the numbers tell what they ask
+abbrev pub kept_told : Kept → Kept → Kept → Option Kept
+kept_told k before after = let now = kept_exchanged k before after in
+    option_map (λ lows. record now { lows = lows }) (lows_told now after)
+
 -- no sum of the one is above that of the other
 pub record IsPart (j k : Kept) : Type 0 where
   pub known : j.known ≤ k.known
   pub active : j.active ≤ k.active
   pub off : j.off ≤ k.off
+
+-- and what is added leaves numbers of so many bits
+pub record MayExchange (k before after : Kept) : Type 0 where
+  pub was : IsPart before k
+  pub known : k.known + after.known < 2 ^ 64
+  pub active : k.active + after.active < 2 ^ 32
+  pub off : k.off + after.off + 1 < 2 ^ 32
+  pub cores : k.cores + after.off < 2 ^ 32
 
 -- this is kept of these cores: it is their recount, and each known start has 32 bits
 pub record Keeps (k : Kept) (cs : List CoreState) : Type 0 where
@@ -126,3 +139,22 @@ pub record IsTurn (levels : List (List ℕ)) (cores : List CoreState) (rows : Li
   pub kept : Keeps (kept_at rows n.level n.place) old
   pub was : (c : CoreState) → Keeps before (slice_index_or old place c ∷ [])
   pub comes : Keeps after (state ∷ [])
+
+-- the domains below this level keep what is so of the new states, and those from it up of the old
+pub record IsChanged (levels : List (List ℕ)) (old new : List CoreState) (rows : List (List Kept))
+    (level : ℕ) : Type 0 where
+  pub shape : HasRows levels rows
+  pub done : (l : ℕ) → 0 < l → l < level → l ≤ length levels → IsKeptOn levels new rows l
+  pub left : (l : ℕ) → 0 < l → level ≤ l → l ≤ length levels → IsKeptOn levels old rows l
+
+-- a core was in one state and is in another now; the domains below this level keep what is so
+pub record IsOnItsWay (levels : List (List ℕ)) (cores : List CoreState) (rows : List (List Kept))
+    (core : ℕ) (was : CoreState) (level : ℕ) : Type 0 where
+  pub old : List CoreState
+  pub state : CoreState
+  pub before : (c : CoreState) → slice_index_or old core c ≡ was
+  pub now : cores ≡ slice_set old core state
+  pub count : length old ≡ size_below levels
+  pub small : AreSmall cores
+  pub above : 0 < level
+  pub changed : IsChanged levels old cores rows level

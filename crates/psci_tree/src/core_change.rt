@@ -3,12 +3,12 @@
 ghost use Rattle.std.specs.Prelude.{◌≡◌, ◌<◌, ◌≤◌, ◌-◌, ◌∷◌, [], length, map, slice_index};
 ghost use Rattle.std.specs.Prelude.{slice_set};
 ghost use Rattle.psci_board.specs.Board.{HasNode, IsBoard, size_below};
-ghost use Rattle.psci_tree.specs.Kept.{AreKept, HasRows, IsKeptOn, IsTurn, Keeps, lows_together};
-ghost use Rattle.psci_tree.specs.Kept.{recount, states_in};
+ghost use Rattle.psci_tree.specs.Kept.{AreKept, HasRows, IsKeptOn, IsOnItsWay, IsTurn, Keeps};
+ghost use Rattle.psci_tree.specs.Kept.{lows_together, recount, states_in};
 ghost use Rattle.psci_tree.specs.Recount.{least};
 ghost use Rattle.psci_tree.specs.Way.{LeadsTo};
 
-use crate::domains::{kept_of, write};
+use crate::domains::{exchange, kept_of, write};
 use crate::kept::Kept;
 use crate::way::Way;
 use psci_board::{Board, Core, MOST_ON_PATH, Node, law_children, law_spans};
@@ -31,10 +31,46 @@ pub fn change_core(
 {
     law_spans();
     let number = core.number as usize;
-    let before = Kept::of_core(&cores[number]);
+    let was = cores[number];
+    let before = Kept::of_core(&was);
     let after = Kept::of_core(state);
     cores[number] = *state;
-    for level in 1..board.height() + 1 {
+    for level in 1..MOST_ON_PATH as u32 {
+        if level > board.height() {
+            break;
+        }
+        let node = Node {
+            level,
+            place: way.places[level as usize],
+        };
+        if !exchange(rows, node, &before, &after) {
+            change_from(cores, rows, board, core, way, was, level);
+            return;
+        }
+    }
+}
+
+/// What each domain on the path of a core keeps, from this level up, once the core came into another
+/// state. It has a frame of its own, so that a change that numbers tell holds nothing for it.
+#[inline(never)]
+fn change_from(
+    cores: &[CoreState],
+    rows: &mut [Vec<Kept>],
+    board: &Board,
+    core: Core,
+    way: &Way,
+    was: CoreState,
+    first: u32,
+)
+    requires lead { LeadsTo board.now.levels core.number way.now }
+    requires way { IsOnItsWay board.now.levels cores.now (map (λ v. v.items) rows.old) core.number
+        was first }
+    ensures { AreKept board.now.levels cores.now (map (λ v. v.items) rows.new) }
+{
+    law_spans();
+    let before = Kept::of_core(&was);
+    let after = Kept::of_core(&cores[core.number as usize]);
+    for level in first..board.height() + 1 {
         let node = Node {
             level,
             place: way.places[level as usize],

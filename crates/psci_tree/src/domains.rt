@@ -1,11 +1,11 @@
 //! What the power domains above the cores keep: a row for each level.
 
 ghost use Rattle.std.specs.Prelude.{◌≡◌, ◌<◌, ◌≤◌, ◌∷◌, [], drop, length, map, replicate, IfOk};
-ghost use Rattle.std.specs.Prelude.{slice_index_or};
+ghost use Rattle.std.specs.Prelude.{slice_index_or, IsSomeAnd, IsTrue, false};
 ghost use Rattle.psci_board.specs.Board.{HasNode, IsBoard, height, size_below, span};
 ghost use Rattle.psci_state.specs.declared.cores.CoreState.{CoreState};
 ghost use Rattle.psci_tree.specs.Recount.{never_started};
-ghost use Rattle.psci_tree.specs.Kept.{AreKept, IsOffRow, Keeps, gone, kept_at, level_kept};
+ghost use Rattle.psci_tree.specs.Kept.{AreKept, IsOffRow, Keeps, MayExchange, gone, kept_at, kept_told, level_kept};
 ghost use Rattle.psci_tree.specs.Kept.{with_kept};
 
 use crate::kept::Kept;
@@ -109,4 +109,23 @@ pub fn write(rows: &mut [Vec<Kept>], node: Node, kept: Kept)
 {
     let row = &mut rows[node.level as usize - 1];
     row[node.place as usize] = kept;
+}
+
+/// What a domain keeps is exchanged in place, where the numbers then tell what the cores below ask
+/// at least. Whether they do; else nothing changes.
+pub fn exchange(rows: &mut [Vec<Kept>], node: Node, before: &Kept, after: &Kept) -> bool
+    requires above { 0 < node.level }
+    requires level { node.level ≤ length rows.old }
+    requires place { node.place
+        < length (level_kept (map (λ v. v.items) rows.old) node.level) }
+    requires may { MayExchange (kept_at (map (λ v. v.items) rows.old) node.level node.place)
+        before.now after.now }
+    ensures told { IsTrue result → IsSomeAnd (kept_told (kept_at (map (λ v. v.items) rows.old)
+        node.level node.place) before.now after.now) (λ kept. map (λ v. v.items) rows.new
+        ≡ with_kept (map (λ v. v.items) rows.old) node kept) }
+    ensures untold { result ≡ false
+        → map (λ v. v.items) rows.new ≡ map (λ v. v.items) rows.old }
+{
+    let row = &mut rows[node.level as usize - 1];
+    row[node.place as usize].exchange(before, after)
 }

@@ -1,8 +1,9 @@
 //! What a domain keeps of the cores below it.
 
 ghost use Rattle.std.specs.Prelude.{◌≡◌, ℕ, ◌+◌, ◌<◌, ◌^◌, ◌∷◌, [], replicate};
+ghost use Rattle.std.specs.Prelude.{IsTrue, None, Some, false};
 ghost use Rattle.psci_tree.specs.Recount.{never_started};
-ghost use Rattle.psci_tree.specs.Kept.{IsPart, Keeps, kept_exchanged, lows_told};
+ghost use Rattle.psci_tree.specs.Kept.{IsPart, Keeps, MayExchange, kept_exchanged, kept_told, lows_told};
 
 use psci_board::MOST_ON_PATH;
 use psci_state::{CoreState, POWER_DOWN};
@@ -67,6 +68,30 @@ impl Kept {
             active: self.active - before.active + after.active,
             off: self.off - before.off + after.off,
         }
+    }
+
+    /// The same in place, where the numbers then tell what the cores ask at least. Whether they do;
+    /// else nothing changes.
+    pub fn exchange(&mut self, before: &Kept, after: &Kept) -> bool
+        requires { MayExchange self.old before.now after.now }
+        ensures told { IsTrue result
+            → kept_told self.old before.now after.now ≡ Some self.new }
+        ensures untold { result ≡ false
+            → (kept_told self.old before.now after.now ≡ None) × (self.new ≡ self.old) }
+    {
+        let active = self.active - before.active + after.active;
+        let off = self.off - before.off + after.off;
+        if active > 0 {
+            self.lows = [0; MOST_ON_PATH];
+        } else if off + 1 == self.cores + after.off {
+            self.lows = after.lows;
+        } else {
+            return false;
+        }
+        self.known = self.known - before.known + after.known;
+        self.active = active;
+        self.off = off;
+        true
     }
 
     /// The same numbers, where the cores ask this at least.
