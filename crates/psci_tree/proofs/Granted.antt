@@ -2,7 +2,7 @@
 use Rattle.std.proofs.lemmas.Bool.{cases_lt}
 use Rattle.std.proofs.lemmas.List.{set_past, get_or_past, set-get_or}
 use Rattle.psci_tree.proofs.Words.{◌&&◌, ◌++◌, ◌+◌, ◌<◌, ◌==◌, ◌∙◌, ◌∷◌, ◌≡◌, ◌≤◌, [], ap}
-use Rattle.psci_tree.proofs.Words.{append-nil, arith, Bool, cases_eq, cleared_from, cond, depth_set}
+use Rattle.psci_tree.proofs.Words.{append-nil, arith, Bool, cases_eq, cond, depth_set}
 use Rattle.psci_tree.proofs.Words.{drop, drop_all, eq-eqb, get_or, get_or-map, get_or-replicate}
 use Rattle.psci_tree.proofs.Words.{get_or-set_other, get_or-set_same, granted_at, group_of}
 use Rattle.psci_tree.proofs.Words.{HasNodeIn, inl, inr, inside, IsDomainTree, IsTree, IsWayOf}
@@ -169,8 +169,13 @@ path_node levels core l way t h is le = record {
   place = omega (arith, is.places l le, inside levels l core t h le);
 }
 
+-- rows with 0 on the path of a core, from this level up
+abbrev pub cleared_from : List (List ℕ) → ℕ → ℕ → List (List ℕ) → List (List ℕ)
+cleared_from levels core level rows = take level rows
+    ++ path_cleared (drop level levels) (place_above levels level core) (drop level rows)
+
 -- one level written, and those above it
-pub cleared_step : (levels rows : List (List ℕ)) (core l p : ℕ) → l < length levels
+cleared_step : (levels rows : List (List ℕ)) (core l p : ℕ) → l < length levels
     → l < length rows → p ≡ place_above levels l core
     → cleared_from levels core (l + 1) (set rows l (set (get_or rows l []) p 0))
     ≡ cleared_from levels core l rows
@@ -181,7 +186,7 @@ cleared_step levels rows core l p h i at =
     (zero_more levels rows l q i)
 
 -- the highest level written
-pub cleared_top : (levels rows : List (List ℕ)) (core l p : ℕ) → l ≡ length levels
+cleared_top : (levels rows : List (List ℕ)) (core l p : ℕ) → l ≡ length levels
     → length rows ≡ suc (length levels) → p ≡ place_above levels l core
     → set rows l (set (get_or rows l []) p 0) ≡ cleared_from levels core l rows
 cleared_top levels rows core l p top long at =
@@ -191,6 +196,27 @@ cleared_top levels rows core l p top long at =
     omega (arith, length-set rows l (set (get_or rows l []) q 0), top, long) in
     let more = zero_more levels rows l q (omega (arith, top, long)) in
     rw at (simp (drop_all (suc l) xs past, take_all (suc l) xs past, append-nil) at more)
+
+-- above the highest level there is nothing left to write
+pub cleared_over : (levels rows : List (List ℕ)) (core l : ℕ) → length levels < l
+    → length rows ≡ suc (length levels) → cleared_from levels core l rows ≡ rows
+cleared_over levels rows core l h long =
+    let past : length rows ≤ l = omega (arith, h, long) in
+    rw (drop_all l rows past, take_all l rows past, append-nil) refl
+
+-- one level written, the highest one too
+pub cleared_more : (levels rows : List (List ℕ)) (core l p : ℕ) → l ≤ length levels
+    → length rows ≡ suc (length levels) → p ≡ place_above levels l core
+    → cleared_from levels core (l + 1) (set rows l (set (get_or rows l []) p 0))
+    ≡ cleared_from levels core l rows
+cleared_more levels rows core l p h long at = elim (cases_eq l (length levels)) [
+  | inl top ↦
+      cleared_over levels (set rows l (set (get_or rows l []) p 0)) core (l + 1)
+      (omega (arith, top)) (length-set rows l (set (get_or rows l []) p 0) ∙ long)
+      ∙ cleared_top levels rows core l p top long at
+  | inr below ↦ cleared_step levels rows core l p (omega (arith, h, below)) (omega (arith, h, long))
+      at
+]
 
 -- Nothing to clear ---------------------------------------------------------------------------
 

@@ -9,12 +9,12 @@ use Rattle.psci_state.specs.declared.cores.CoreState.{CoreState}
 use Rattle.psci_state.specs.declared.cores.Activity.TheVariants.{Active, Suspended, Away}
 use Rattle.psci_tree.specs.declared.kept.Kept.{Kept}
 use Rattle.psci_tree.specs.Kept.{gone as gone_kept, kept_at, kept_exchanged, lows_together}
-use Rattle.psci_tree.specs.Kept.{lows_told, recount, states_in, with_kept, AreKept, AreSmall}
-use Rattle.psci_tree.specs.Kept.{IsOffRow, IsTurn}
-use Rattle.std.proofs.Common.{◌+◌, ◌^◌, arith}
+use Rattle.psci_tree.specs.Kept.{lows_told, kept_told, recount, states_in, with_kept, AreKept, AreSmall}
+use Rattle.psci_tree.specs.Kept.{IsOffRow, IsOnItsWay, IsTurn, MayExchange}
+use Rattle.std.proofs.Common.{◌+◌, ◌-◌, ◌^◌, ap, arith, length}
+use Rattle.std.proofs.Math.ListN.{length-set}
 use Rattle.psci_tree.specs.Changes.{core_changed}
 use Rattle.psci_tree.specs.Recount.{never_started}
-use Rattle.psci_tree.specs.Way.{cleared_from}
 
 -- a core in power-down, and one in retention of its cluster
 abbrev down : CoreState
@@ -89,6 +89,46 @@ told : Gives (λ (q : List CoreState × CoreState). lows_told (recount q.0) (rec
     ∷ (down ∷ [], down) ⇒ Some (3 ∷ 3 ∷ 0 ∷ 0 ∷ []) ∷ [])
 told = refl
 
+-- once one of these cores came into another state, what is kept of them, where the numbers tell it
+told_then : Gives (λ (q : List CoreState × CoreState × CoreState).
+    kept_told (recount q.0) (recount (q.1 ∷ [])) (recount (q.2 ∷ [])))
+    -- the last active one goes off, the other one is off: all ask for power-down
+    ((gone ∷ pending ∷ [], pending, gone) ⇒ Some (keeps 3 3 3 3 2 2 0 2)
+    -- one is asked on: nothing is asked any more
+    ∷ (gone ∷ retained ∷ [], gone, pending) ⇒ Some (keeps 0 0 0 0 5 2 1 0)
+    -- the last active one goes off, the other one is suspended: the numbers do not tell
+    ∷ (retained ∷ pending ∷ [], pending, gone) ⇒ None ∷ [])
+told_then = refl
+
+-- what is exchanged: one of the two cores, and none of another number, so that no sum falls below 0
+may_exchange : MayExchange (keeps 0 0 0 0 5 2 1 1) (keeps 0 0 0 0 1 1 1 0) (keeps 3 3 3 3 1 1 0 1)
+may_exchange = record {
+  was = record { known = omega arith; active = omega arith; off = omega arith };
+  known = omega arith;
+  active = omega arith;
+  off = omega arith;
+  cores = omega arith;
+}
+
+none_active : MayExchange (keeps 3 3 3 3 5 2 0 2) (keeps 0 0 0 0 1 1 1 0) (keeps 3 3 3 3 1 1 0 1) → ⊥
+none_active may = absurd (omega (arith, may.was.active))
+
+too_many_starts : MayExchange (keeps 0 0 0 0 (2 ^ 64) 2 1 1) (keeps 0 0 0 0 1 1 1 0)
+    (keeps 3 3 3 3 1 1 0 1) → ⊥
+too_many_starts may = absurd (omega (arith, may.known))
+
+too_many_active : MayExchange (keeps 0 0 0 0 5 2 (2 ^ 32) 0) (keeps 0 0 0 0 1 1 1 0)
+    (keeps 0 0 0 0 1 1 1 0) → ⊥
+too_many_active may = absurd (omega (arith, may.active))
+
+too_many_off : MayExchange (keeps 0 0 0 0 5 2 1 (2 ^ 32 - 1)) (keeps 0 0 0 0 1 1 1 0)
+    (keeps 3 3 3 3 1 1 0 1) → ⊥
+too_many_off may = absurd (omega (arith, may.off))
+
+too_many_cores : MayExchange (keeps 0 0 0 0 5 (2 ^ 32) 1 0) (keeps 0 0 0 0 1 1 1 0)
+    (keeps 0 0 0 0 1 1 1 0) → ⊥
+too_many_cores may = absurd (omega (arith, may.cores))
+
 -- a start takes its own number, however many there were before, and not one more; without a start
 -- the known one stays
 changes : Gives (λ (c : Change). core_changed c retained)
@@ -128,14 +168,6 @@ kept_written = refl
 places_last : map (λ l. place_above levels l 3) (0 ∷ 1 ∷ 2 ∷ 3 ∷ []) ≡ 3 ∷ 2 ∷ 1 ∷ 0 ∷ []
 places_last = refl
 
--- rows with 0 on the path of the last core, but not its own
-abbrev rows : List (List ℕ)
-rows = (3 ∷ 3 ∷ 3 ∷ 3 ∷ []) ∷ (3 ∷ 3 ∷ 3 ∷ []) ∷ (3 ∷ 3 ∷ []) ∷ (3 ∷ []) ∷ []
-
-cleared_above : cleared_from levels 3 1 rows
-    ≡ (3 ∷ 3 ∷ 3 ∷ 3 ∷ []) ∷ (3 ∷ 3 ∷ 0 ∷ []) ∷ (3 ∷ 0 ∷ []) ∷ (0 ∷ []) ∷ []
-cleared_above = refl
-
 -- a known start of more than 32 bits, a level without a row, a row without a domain, and a turn at
 -- a core itself
 not_small : AreSmall (record { activity = Away; known = 2 ^ 32 + 1 } ∷ []) → ⊥
@@ -150,3 +182,11 @@ no_domain is = absurd (omega (arith, is.count))
 turn_at_core : IsTurn levels four kept (record { level = 0; place = 2 }) (recount (gone ∷ []))
     (recount (down ∷ [])) → ⊥
 turn_at_core turn = absurd (omega (arith, turn.above))
+
+-- a core of which the domains of level 0 are asked, one that was in another state, and one that is
+-- in none of its own
+way_from_core : IsOnItsWay levels four kept 3 gone 0 → ⊥
+way_from_core way = absurd (omega (arith, way.above))
+
+way_of_few : IsOnItsWay levels (gone ∷ []) kept 0 gone 1 → ⊥
+way_of_few way = absurd (omega (arith, way.count, ap length way.now, length-set way.old 0 way.state))

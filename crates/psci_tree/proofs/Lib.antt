@@ -2,6 +2,7 @@ pub mod Asks
 pub mod Bounds
 pub mod Children
 pub mod Changed
+pub mod Clearing
 pub mod DepthRows
 pub mod Gone
 pub mod GrantRows

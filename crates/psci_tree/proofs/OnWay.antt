@@ -1,5 +1,5 @@
 -- A core that is in another state, and the domains on its path that keep so, level by level.
-use Rattle.std.proofs.Common.{None, ◌⊎◌}
+use Rattle.std.proofs.Common.{None}
 use Rattle.std.specs.Prelude.{IsSomeAnd, Option, option_map}
 use Rattle.psci_tree.proofs.Words.{◌+◌, ◌<◌, ◌∷◌, ◌≡◌, ◌≤◌, [], AreKept, AreSmall, arith, CoreState}
 use Rattle.psci_tree.proofs.Words.{count_by-le-length, drop, get_or, get_or-set_same, inside, IsTree}

@@ -44,7 +44,7 @@ pub use Rattle.psci_tree.specs.Recount.{is_active_at, is_away, IsActivity, IsDom
 pub use Rattle.psci_tree.specs.Recount.{known_at, least, level_sizes, low, never_started, state_at}
 pub use Rattle.psci_tree.specs.Recount.{TreeValue}
 pub use Rattle.psci_tree.specs.Standing.{on_path}
-pub use Rattle.psci_tree.specs.Way.{cleared_from, IsWayOf}
+pub use Rattle.psci_tree.specs.Way.{IsWayOf}
 pub use Rattle.psci_tree.specs.contracts.tree.Tree.{the_view}
 pub use Rattle.psci_tree.specs.declared.depths.Depths.{Depths}
 pub use Rattle.psci_tree.specs.declared.kept.Kept.{Kept}

@@ -1,9 +1,8 @@
 -- The ways from the system down to all cores.
-use Rattle.std.specs.Prelude.{◌≡◌, ℕ, ◌<◌, ◌≤◌, List, ◌++◌, length, map, take, drop}
+use Rattle.std.specs.Prelude.{◌≡◌, ℕ, ◌<◌, ◌≤◌, List, length, map}
 use Rattle.std.specs.Prelude.{slice_index, slice_index_or}
 use Rattle.psci_board.specs.Board.{IsTree, place_above, size_below}
 use Rattle.psci_tree.specs.declared.way.Way.{Way}
-use Rattle.psci_tree.specs.Changes.{path_cleared}
 use Rattle.psci_tree.specs.Recount.{level_sizes}
 
 -- of each domain on the path of a core, the place
@@ -16,11 +15,6 @@ pub record AreWays (levels : List (List ℕ)) (ways : List Way) : Type 0 where
   pub count : length ways ≡ size_below levels
   pub each : (core : ℕ) (w : Way) → core < size_below levels
       → IsWayOf levels core (slice_index_or ways core w)
-
--- rows with 0 on the path of a core, from this level up
-abbrev pub cleared_from : List (List ℕ) → ℕ → ℕ → List (List ℕ) → List (List ℕ)
-cleared_from levels core level rows = take level rows
-    ++ path_cleared (drop level levels) (place_above levels level core) (drop level rows)
 
 -- a way that leads to a core of these levels, which are those of a board
 pub record LeadsTo (levels : List (List ℕ)) (c : ℕ) (w : Way) : Type 0 where

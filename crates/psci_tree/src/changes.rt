@@ -138,7 +138,7 @@ impl Tree {
             return;
         }
         let way = &self.ways[core.number as usize];
-        clear_up(&mut self.depths, &self.board, core, way, 0);
+        clear_up(&mut self.depths, &self.board, core, way);
     }
 
     /// Turns off every core, and grants depth 3 to every domain, which is confirmed.

@@ -4,14 +4,14 @@ ghost use Rattle.std.specs.Prelude.{◌≡◌, ◌<◌, ◌≤◌, [], map, leng
 ghost use Rattle.std.specs.Prelude.{slice_index_or, slice_set, IfOk};
 ghost use Rattle.psci_board.specs.Board.{height};
 ghost use Rattle.psci_tree.specs.declared.depths.Depths.{Depths};
-ghost use Rattle.psci_tree.specs.Changes.{rows_with_depth};
+ghost use Rattle.psci_tree.specs.Changes.{path_cleared, rows_with_depth};
 ghost use Rattle.psci_tree.specs.DepthRows.{confirmed_of, filled, granted_of};
 ghost use Rattle.psci_tree.specs.Recount.{level_sizes};
-ghost use Rattle.psci_tree.specs.Way.{AreRows, LeadsTo, cleared_from};
+ghost use Rattle.psci_tree.specs.Way.{AreRows, LeadsTo};
 
 use crate::depths::Depths;
 use crate::way::Way;
-use psci_board::{Board, Core, Memory, Node};
+use psci_board::{Board, Core, MOST_ON_PATH, Memory, Node};
 use std::alloc::Global;
 
 /// Power-down for each domain of a board, level by level, which is confirmed.
@@ -64,22 +64,23 @@ pub fn write(rows: &mut [Vec<Depths>], node: Node, depths: Depths)
     row[node.place as usize] = depths;
 }
 
-/// Nothing is granted or confirmed any more to the domain of this level on the path of a core to
-/// which this way leads, and to each one above it.
-pub fn clear_up(rows: &mut [Vec<Depths>], board: &Board, core: Core, way: &Way, level: u32)
+/// Nothing is granted or confirmed any more to the domains on the path of a core to which this way
+/// leads.
+pub fn clear_up(rows: &mut [Vec<Depths>], board: &Board, core: Core, way: &Way)
     requires lead { LeadsTo board.now.levels core.number way.now }
     requires rows { AreRows board.now.levels (granted_of (map (λ v. v.items) rows.old))
         (confirmed_of (map (λ v. v.items) rows.old)) }
-    requires level { level ≤ height board.now }
-    ensures granted { granted_of (map (λ v. v.items) rows.new) ≡ cleared_from board.now.levels
-        core.number level (granted_of (map (λ v. v.items) rows.old)) }
-    ensures confirmed { confirmed_of (map (λ v. v.items) rows.new) ≡ cleared_from board.now.levels
-        core.number level (confirmed_of (map (λ v. v.items) rows.old)) }
+    ensures granted { granted_of (map (λ v. v.items) rows.new) ≡ path_cleared board.now.levels
+        core.number (granted_of (map (λ v. v.items) rows.old)) }
+    ensures confirmed { confirmed_of (map (λ v. v.items) rows.new) ≡ path_cleared board.now.levels
+        core.number (confirmed_of (map (λ v. v.items) rows.old)) }
 {
-    let place = way.places[level as usize];
-    let node = Node { level, place };
-    write(rows, node, Depths::NONE);
-    if level < board.height() {
-        clear_up(rows, board, core, way, level + 1);
+    // so many turns at most, which a compiler lays out one after the other
+    for level in 0..MOST_ON_PATH as u32 {
+        if level > board.height() {
+            break;
+        }
+        let place = way.places[level as usize];
+        write(rows, Node { level, place }, Depths::NONE);
     }
 }

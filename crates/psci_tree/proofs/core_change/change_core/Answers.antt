@@ -1,7 +1,7 @@
 -- Level by level, the domain on the core's path keeps what is so now.
-use Rattle.psci_tree.proofs.Words.{◌<◌, ◌^◌, ◌∙◌, ◌∷◌, ◌≡◌, ◌≤◌, [], ap, arith, CoreState, get_or}
+use Rattle.psci_tree.proofs.Words.{◌<◌, ◌^◌, ◌∙◌, ◌∷◌, ◌≡◌, ◌≤◌, [], ap, arith, CoreState}
 use Rattle.psci_tree.proofs.Words.{get_or-set_same, get_or_default, IsTree, Keeps, Kept, length}
-use Rattle.psci_tree.proofs.Words.{List, map, place_above, refl, set, size_below, SpanLaws, subst}
+use Rattle.psci_tree.proofs.Words.{List, place_above, refl, set, size_below, SpanLaws, subst}
 use Rattle.psci_tree.proofs.Words.{sym, ℕ}
 use Rattle.psci_tree.specs.Kept.{IsOnItsWay, IsTurn}
 use Rattle.psci_tree.proofs.Levels.{none_changed, small_set}

@@ -1,7 +1,7 @@
 -- Level by level, the domain on the core's path keeps what is so now.
-use Rattle.psci_tree.proofs.Words.{◌<◌, ◌∷◌, ◌≡◌, ◌≤◌, [], arith, CoreState, drop, get_or}
-use Rattle.psci_tree.proofs.Words.{get_or_default, inside, Keeps, Kept, length, List, map}
-use Rattle.psci_tree.proofs.Words.{place_above, size_below, states_in, subst, ℕ}
+use Rattle.psci_tree.proofs.Words.{◌∷◌, ◌≡◌, ◌≤◌, [], arith, CoreState, get_or}
+use Rattle.psci_tree.proofs.Words.{Keeps, length, List}
+use Rattle.psci_tree.proofs.Words.{place_above, states_in, subst, ℕ}
 use Rattle.psci_tree.proofs.OnWay.{IsThere, there, way_more, way_over, way_turn}
 use Rattle.psci_tree.proofs.core_change.change_from.Goals.{In-loop-level}
 use Rattle.psci_tree.proofs.core_change.change_from.Goals as goal

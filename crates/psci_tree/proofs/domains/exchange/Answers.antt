@@ -1,8 +1,8 @@
 -- One place is exchanged, in the row of its level.
 use Rattle.std.proofs.lemmas.List.{set-get_or}
-use Rattle.psci_tree.proofs.Words.{◌-◌, ◌<◌, ◌∙◌, ◌≡◌, [], ap, arith, get_or, get_or-map, Kept}
-use Rattle.psci_tree.proofs.Words.{get_or_default, kept_at, length, level_kept, List, map, map-set}
-use Rattle.psci_tree.proofs.Words.{recount, set, sym, with_item, ℕ}
+use Rattle.psci_tree.proofs.Words.{◌-◌, ◌∙◌, ◌≡◌, [], ap, arith, get_or, get_or-map, Kept}
+use Rattle.psci_tree.proofs.Words.{get_or_default, kept_at, level_kept, List, map, map-set}
+use Rattle.psci_tree.proofs.Words.{recount, set, sym, with_item}
 use Rattle.psci_tree.proofs.domains.exchange.Goals.{After-exchange}
 use Rattle.psci_tree.proofs.domains.exchange.Goals as goal
 
