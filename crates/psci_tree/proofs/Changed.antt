@@ -1,94 +1,82 @@
 -- What is kept of some cores, once one of them came into another state.
-use Rattle.std.proofs.Common.{◌*◌, None, ◌⊎◌}
+use Rattle.std.proofs.lemmas.Bool.{cases_lt}
+use Rattle.std.proofs.lemmas.Grind.{same_number_lists}
+use Rattle.std.proofs.lemmas.List.{get_or_past}
 use Rattle.std.proofs.lemmas.List.Sums.{sum_by-set}
-use Rattle.psci_tree.proofs.Words.{◌+◌, ◌-◌, ◌<◌, ◌==◌, ◌∷◌, ◌≡◌, ◌≤◌, [], ap, arith}
-use Rattle.psci_tree.proofs.Words.{Bool, cond, CoreState, eqb-true}
-use Rattle.psci_tree.proofs.Words.{get_or, get_or-le-sum_by}
-use Rattle.psci_tree.proofs.Words.{inl, inr, is_active, is_away, IsPart, Keeps, Kept}
-use Rattle.psci_tree.proofs.Words.{kept_exchanged, length, length-set, List}
-use Rattle.psci_tree.proofs.Words.{lows_told, ltb-true, nat_lt, recount, refl, set}
-use Rattle.psci_tree.proofs.Words.{Some, sum_by, sym, true, ℕ}
-use Rattle.psci_tree.proofs.Words.{◌^◌, ◌∙◌, All-take, AreSmall, drop, get_or_default, kept_at}
-use Rattle.psci_tree.proofs.Words.{never_started, Node, span, states_in, suc, sum_by-cons}
-use Rattle.std.proofs.lemmas.List.Elements.{All-drop}
-use Rattle.psci_tree.specs.Kept.{IsTurn}
-use Rattle.psci_tree.proofs.Asks.{active_in, away_in, low_one, low_zero}
+use Rattle.psci_tree.proofs.Words.{◌*◌, ◌+◌, ◌-◌, ◌<◌, ◌==◌, ◌^◌, ◌∙◌, ◌∷◌, ◌≡◌, ◌≤◌, []}
+use Rattle.psci_tree.proofs.Words.{ap, AreSmall, arith, asking_else, asking_in, asks, cases_eq}
+use Rattle.psci_tree.proofs.Words.{cond}
+use Rattle.psci_tree.proofs.Words.{CoreState, count_by-le-length, eq-eqb, get_or}
+use Rattle.psci_tree.proofs.Words.{get_or-le-sum_by, get_or-set_other, get_or-set_same, inl, inr}
+use Rattle.psci_tree.proofs.Words.{is_active, is_away, Keeps, Kept, kept_exchanged, length}
+use Rattle.psci_tree.proofs.Words.{length-set, List, map, MayExchange, ne_eqb, recount, refl, set}
+use Rattle.psci_tree.proofs.Words.{suc, sum_by, sum_by-cons, sym, zero, ℕ}
+
+-- One count less, and one more --------------------------------------------------------------------
+
+less_at : (xs : List ℕ) (x k : ℕ) → k < length xs
+    → get_or (set xs x (get_or xs x 0 - 1)) k 0 ≡ get_or xs k 0 - cond (x == k) 1 0
+less_at xs x k h = elim (cases_eq x k) [
+  | inl e ↦
+      rw (eq-eqb x k e, e) (get_or-set_same xs k (get_or xs k 0 - 1) 0 h)
+  | inr n ↦
+      rw (ne_eqb x k n) (get_or-set_other xs x k (get_or xs x 0 - 1) 0 (λ e. n (sym e))
+      ∙ omega arith)
+]
+
+more_at : (xs : List ℕ) (y k : ℕ) → k < length xs
+    → get_or (set xs y (get_or xs y 0 + 1)) k 0 ≡ get_or xs k 0 + cond (y == k) 1 0
+more_at xs y k h = elim (cases_eq y k) [
+  | inl e ↦
+      rw (eq-eqb y k e, e) (get_or-set_same xs k (get_or xs k 0 + 1) 0 h)
+  | inr n ↦
+      rw (ne_eqb y k n) (get_or-set_other xs y k (get_or xs y 0 + 1) 0 (λ e. n (sym e))
+      ∙ omega arith)
+]
+
+else_at : (xs : List ℕ) (x y k : ℕ) → k < length xs
+    → get_or (asking_else x y xs) k 0 ≡ get_or xs k 0 - cond (x == k) 1 0 + cond (y == k) 1 0
+else_at xs x y k h =
+    let less : List ℕ = set xs x (get_or xs x 0 - 1) in
+    more_at less y k (omega (arith, h, length-set xs x (get_or xs x 0 - 1)))
+    ∙ ap (λ m. m + cond (y == k) 1 0) (less_at xs x k h)
+
+-- the counts of each depth
+abbrev of_each : (ℕ → ℕ) → List ℕ
+of_each f = map f (0 ∷ 1 ∷ 2 ∷ 3 ∷ [])
+
+each_at : (f : ℕ → ℕ) (k : ℕ) → k < 4 → get_or (of_each f) k 0 ≡ f k
+each_at f zero h = refl
+each_at f (suc zero) h = refl
+each_at f (suc (suc zero)) h = refl
+each_at f (suc (suc (suc zero))) h = refl
+each_at f (suc (suc (suc (suc k)))) h = absurd (omega arith)
+
+else_each : (f g : ℕ → ℕ) (x y : ℕ)
+    → ((d : ℕ) → f d - cond (x == d) 1 0 + cond (y == d) 1 0 ≡ g d)
+    → asking_else x y (of_each f) ≡ of_each g
+else_each f g x y same =
+    let less : List ℕ = set (of_each f) x (get_or (of_each f) x 0 - 1) in
+    let long : length (asking_else x y (of_each f)) ≡ 4 =
+    length-set less y (get_or less y 0 + 1)
+    ∙ length-set (of_each f) x (get_or (of_each f) x 0 - 1) in
+    same_number_lists (asking_else x y (of_each f)) (of_each g) long (λ k h.
+    let low : k < 4 = omega (arith, h, long) in
+    else_at (of_each f) x y k low
+    ∙ ap (λ m. m - cond (x == k) 1 0 + cond (y == k) 1 0) (each_at f k low)
+    ∙ same k ∙ sym (each_at g k low))
+
+-- One of the cores --------------------------------------------------------------------------------
 
 -- a sum over the cores, by what it was
 moved : (f : CoreState → ℕ) (cs : List CoreState) (j : ℕ) (b s : CoreState) → j < length cs
-    → b ≡ get_or cs j b
-    → sum_by f cs - sum_by f (b ∷ []) + sum_by f (s ∷ []) ≡ sum_by f (set cs j s)
+    → b ≡ get_or cs j b → sum_by f cs - f b + f s ≡ sum_by f (set cs j s)
 moved f cs j b s h is =
     omega (arith, sum_by-set f cs j s b h, get_or-le-sum_by f cs j b h, ap f is)
 
--- Their recount ------------------------------------------------------------------------------
-
--- the numbers are those of the recount with the new state
-pub record AreMoved (k : Kept) (cs : List CoreState) : Type 0 where
-  pub known : k.known ≡ sum_by (λ c. c.known) cs
-  pub cores : k.cores ≡ length cs
-  pub active : k.active ≡ active_in cs
-  pub off : k.off ≡ away_in cs
-
-pub sums_moved : (cs : List CoreState) (j : ℕ) (b s : CoreState) (k before after : Kept)
-    → j < length cs → b ≡ get_or cs j b → Keeps k cs → Keeps before (b ∷ [])
-    → Keeps after (s ∷ []) → AreMoved (kept_exchanged k before after) (set cs j s)
-sums_moved cs j b s k before after h is own was new =
-    rw (own.counted, was.counted, new.counted) (record {
-      known = moved (λ c. c.known) cs j b s h is;
-      cores = sym (length-set cs j s);
-      active = moved (λ c. cond (is_active c.activity) 1 0) cs j b s h is;
-      off = moved (λ c. cond (is_away c.activity) 1 0) cs j b s h is;
-    })
-
--- with what the cores ask, they are the recount
-pub recount_with : (cs : List CoreState) (k : Kept) (ls : List ℕ) → AreMoved k cs
-    → ls ≡ (recount cs).lows → record k { lows = ls } ≡ recount cs
-recount_with cs k ls m e = rw (e, m.known, m.cores, m.active, m.off) refl
-
-told_cases : (a b : Bool) (xs ys ls : List ℕ)
-    → Some ls ≡ cond a (Some xs) (cond b (Some ys) None)
-    → ((a ≡ true) × (ls ≡ xs)) ⊎ ((b ≡ true) × (ls ≡ ys))
-told_cases a b xs ys ls e = grind arith
-
--- what the numbers tell of what they ask is so
-pub told_right : (cs : List CoreState) (j : ℕ) (s : CoreState) (k after : Kept) (ls : List ℕ)
-    → j < length cs → AreMoved k (set cs j s) → Keeps after (s ∷ [])
-    → Some ls ≡ lows_told k after → ls ≡ (recount (set cs j s)).lows
-told_right cs j s k after ls h m new told = elim (told_cases (nat_lt 0 k.active)
-    (k.off + 1 == k.cores + after.off) _ _ ls told) [
-      | inl p ↦
-          let here : 0 < active_in (set cs j s) =
-          omega (arith, m.active, ltb-true 0 k.active p.0) in
-          simp (p.1, low_zero)
-      | inr p ↦
-          let here : away_in (set cs j s) + 1 ≡ length (set cs j s) + away_in (s ∷ []) = omega (
-            arith,
-            eqb-true _ _ p.0,
-            m.off,
-            m.cores,
-            ap (λ (i : Kept). i.off) new.counted,
-          ) in
-          simp (p.1, new.counted, low_one)
-    ]
-
--- what is kept of one of the cores is a part of what is kept of all
 part : (f : CoreState → ℕ) (cs : List CoreState) (j : ℕ) (b : CoreState) → j < length cs
-    → b ≡ get_or cs j b → sum_by f (b ∷ []) ≤ sum_by f cs
+    → b ≡ get_or cs j b → f b ≤ sum_by f cs
 part f cs j b h is = omega (arith, get_or-le-sum_by f cs j b h, ap f is)
-
-pub part_of : (cs : List CoreState) (j : ℕ) (b : CoreState) (k before : Kept) → j < length cs
-    → b ≡ get_or cs j b → Keeps k cs → Keeps before (b ∷ []) → IsPart before k
-part_of cs j b k before h is own was = rw (own.counted, was.counted) (record {
-  known = part (λ c. c.known) cs j b h is;
-  active = part (λ c. cond (is_active c.activity) 1 0) cs j b h is;
-  off = part (λ c. cond (is_away c.activity) 1 0) cs j b h is;
-})
-
--- One of the cores below a domain ------------------------------------------------------------
-
-abbrev IsSmall : CoreState → Type 0
-IsSmall c = c.known ≤ 2 ^ 32
 
 -- known starts of 32 bits have a sum of so many bits
 known_small : (cs : List CoreState) → AreSmall cs
@@ -98,53 +86,107 @@ known_small (c ∷ cs) h =
     let rest = known_small cs (λ i d inside. h (suc i) d (omega (arith, inside))) in
     omega (arith, sum_by-cons (λ (x : CoreState). x.known) c cs, h 0 c (omega arith), rest)
 
-module _ {levels : List (List ℕ)} {cores : List CoreState} {rows : List (List Kept)} {n : Node}
-    {before after : Kept} (t : IsTurn levels cores rows n before after) where
-  abbrev one : CoreState
-  one = get_or t.old t.place never_started
+module _ (level : ℕ) (cs : List CoreState) (j : ℕ) (b s : CoreState) (k : Kept)
+    (inside : j < length cs) (is : b ≡ get_or cs j b) (keeps : Keeps level k cs) where
+  abbrev asks_for : ℕ → CoreState → ℕ
+  asks_for depth c = cond (asks c.activity level == depth) 1 0
 
-  one_is : one ≡ get_or t.old t.place one
-  one_is = get_or_default t.old t.place never_started one t.inside
+  asking_moved : asking_else (asks b.activity level) (asks s.activity level) k.asking
+      ≡ (recount level (set cs j s)).asking
+  asking_moved =
+      ap (λ (i : Kept). asking_else (asks b.activity level) (asks s.activity level) i.asking)
+      keeps.counted
+      ∙ else_each (λ d. asking_in level d cs) (λ d. asking_in level d (set cs j s))
+      (asks b.activity level) (asks s.activity level)
+      (λ d. moved (asks_for d) cs j b s inside is)
 
-  pub turn_part : (k : Kept) → k ≡ kept_at rows n.level n.place → IsPart before k
-  turn_part k e =
-      part_of t.old t.place one k before t.inside one_is (rw e t.kept) (t.was never_started)
+  -- what is exchanged is the recount with the new state
+  counted : kept_exchanged level k b s ≡ recount level (set cs j s)
+  counted =
+      let known : k.known - b.known + s.known ≡ (recount level (set cs j s)).known =
+      ap (λ (i : Kept). i.known - b.known + s.known) keeps.counted
+      ∙ moved (λ c. c.known) cs j b s inside is in
+      let cores : k.cores ≡ (recount level (set cs j s)).cores =
+      ap (λ (i : Kept). i.cores) keeps.counted ∙ sym (length-set cs j s) in
+      let active : k.active - cond (is_active b.activity) 1 0 + cond (is_active s.activity) 1 0
+      ≡ (recount level (set cs j s)).active =
+      ap (λ (i : Kept). i.active - cond (is_active b.activity) 1 0
+      + cond (is_active s.activity) 1 0) keeps.counted
+      ∙ moved (λ c. cond (is_active c.activity) 1 0) cs j b s inside is in
+      let off : k.off - cond (is_away b.activity) 1 0 + cond (is_away s.activity) 1 0
+      ≡ (recount level (set cs j s)).off =
+      ap (λ (i : Kept). i.off - cond (is_away b.activity) 1 0 + cond (is_away s.activity) 1 0)
+      keeps.counted
+      ∙ moved (λ c. cond (is_away c.activity) 1 0) cs j b s inside is in
+      rw (asking_moved, known, cores, active, off) refl
 
-  moved_in : (k : Kept) → k ≡ kept_at rows n.level n.place
-      → AreMoved (kept_exchanged k before after) (set t.old t.place t.state)
-  moved_in k e = sums_moved t.old t.place one t.state k before after t.inside one_is (rw e t.kept)
-      (t.was never_started) t.comes
+  pub exchanged_keeps : AreSmall (set cs j s)
+      → Keeps level (kept_exchanged level k b s) (set cs j s)
+  exchanged_keeps small = record {
+    counted = counted;
+    small = omega (
+      arith,
+      known_small (set cs j s) small,
+      ap (λ (i : Kept). i.known) counted,
+    );
+  }
 
-  small_in : AreSmall (states_in levels cores n)
-  small_in = All-take IsSmall (span levels n).count (drop (span levels n).first cores)
-      (All-drop IsSmall (span levels n).first cores t.small)
-
-  keeps_with : (k : Kept) (ls : List ℕ) → AreMoved k (set t.old t.place t.state)
-      → ls ≡ (recount (states_in levels cores n)).lows
-      → Keeps (record k { lows = ls }) (states_in levels cores n)
-  keeps_with k ls m e =
-      let here : record k { lows = ls } ≡ recount (states_in levels cores n) =
-      recount_with (states_in levels cores n) k ls (rw t.now m) e in
-      record {
-        counted = here;
-        small = omega (
+  -- the numbers that are exchanged keep their bits
+  pub may_exchange : length cs < 2 ^ 15 → s.known ≤ 2 ^ 32 → MayExchange level k b s
+  may_exchange few small = record {
+    known = omega (
+      arith,
+      ap (λ (i : Kept). i.known) keeps.counted,
+      part (λ c. c.known) cs j b inside is,
+    );
+    asking = λ low.
+        let one : asks_for (asks b.activity level) b ≡ 1 =
+        rw (eq-eqb (asks b.activity level) (asks b.activity level) refl) refl in
+        omega (
           arith,
-          known_small (states_in levels cores n) small_in,
-          ap (λ (j : Kept). j.known) here,
+          one,
+          part (asks_for (asks b.activity level)) cs j b inside is,
+          ap (λ (i : Kept). get_or i.asking (asks b.activity level) 0) keeps.counted,
+          each_at (λ d. asking_in level d cs) (asks b.activity level) (omega (arith, low)),
         );
-      }
-
-  -- with what the numbers tell that the cores below now ask
-  pub turn_told : (k now : Kept) (ls : List ℕ) → k ≡ kept_at rows n.level n.place
-      → now ≡ kept_exchanged k before after → Some ls ≡ lows_told now after
-      → Keeps (record now { lows = ls }) (states_in levels cores n)
-  turn_told k now ls e is told =
-      let moved : AreMoved now (set t.old t.place t.state) = rw is (moved_in k e) in
-      keeps_with now ls moved (told_right t.old t.place t.state now after ls t.inside moved t.comes
-      told ∙ ap (λ cs. (recount cs).lows) (sym t.now))
-
-  -- and with what a look at the children says
-  pub turn_looked : (k now : Kept) (ls : List ℕ) → k ≡ kept_at rows n.level n.place
-      → now ≡ kept_exchanged k before after → ls ≡ (recount (states_in levels cores n)).lows
-      → Keeps (record now { lows = ls }) (states_in levels cores n)
-  turn_looked k now ls e is asked = keeps_with now ls (rw is (moved_in k e)) asked
+    active = omega (
+      arith,
+      ap (λ (i : Kept). i.active) keeps.counted,
+      part (λ c. cond (is_active c.activity) 1 0) cs j b inside is,
+    );
+    off = omega (
+      arith,
+      ap (λ (i : Kept). i.off) keeps.counted,
+      part (λ c. cond (is_away c.activity) 1 0) cs j b inside is,
+    );
+    few_known = omega (arith, keeps.small, small, few);
+    few_asking = λ depth. few_at depth;
+    few_active = omega (
+      arith,
+      few,
+      ap (λ (i : Kept). i.active) keeps.counted,
+      count_by-le-length (λ (c : CoreState). is_active c.activity) cs,
+    );
+    few_off = omega (
+      arith,
+      few,
+      ap (λ (i : Kept). i.off) keeps.counted,
+      count_by-le-length (λ (c : CoreState). is_away c.activity) cs,
+    );
+  }
+    where
+      few_at : (depth : ℕ) → get_or k.asking depth 0 + 1 < 2 ^ 16
+      few_at depth = elim (cases_lt depth 4) [
+        | inl low ↦ omega (
+          arith,
+          few,
+          ap (λ (i : Kept). get_or i.asking depth 0) keeps.counted,
+          each_at (λ d. asking_in level d cs) depth low,
+          count_by-le-length (λ (c : CoreState). asks c.activity level == depth) cs,
+        )
+        | inr high ↦ omega (
+          arith,
+          ap (λ (i : Kept). get_or i.asking depth 0) keeps.counted,
+          get_or_past (of_each (λ d. asking_in level d cs)) depth 0 high,
+        )
+      ]

@@ -104,13 +104,13 @@ turned_off levels cores rows laws same are =
             place = omega (arith, there, are.shape.domains level some top);
           } in
           let keeps = are.each level some top place has.place in
-          let is : get_or (level_kept (map (map gone) rows) level) place (recount [])
+          let is : get_or (level_kept (map (map gone) rows) level) place (recount 0 [])
           ≡ gone (kept_at rows level place) =
-          ap (λ (ks : List Kept). get_or ks place (recount [])) row
-          ∙ get_or-map gone (level_kept rows level) place (recount []) (recount []) there in
+          ap (λ (ks : List Kept). get_or ks place (recount 0 [])) row
+          ∙ get_or-map gone (level_kept rows level) place (recount 0 []) (recount 0 []) there in
           let many : (kept_at rows level place).cores ≡ (span levels n).count =
           ap (λ (k : Kept). k.cores) keeps.counted ∙ states_long levels cores n laws same has in
-          rw (is, many) (never_keeps (span levels n).count);
+          rw (is, many) (never_keeps level (span levels n).count);
     })
 
 -- one row more

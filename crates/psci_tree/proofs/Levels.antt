@@ -3,10 +3,12 @@ use Rattle.psci_tree.proofs.Words.{◌+◌, ◌-◌, ◌<◌, ◌∙◌, ◌≡�
 use Rattle.psci_tree.proofs.Words.{CoreState, drop, get_or, get_or-set_other, get_or-set_same}
 use Rattle.psci_tree.proofs.Words.{HasNodeIn, HasRows, inl, inr, IsKeptOn, IsTree, Keeps, Kept}
 use Rattle.psci_tree.proofs.Words.{kept_at, length, length-set, level_kept, List, Node, place_above}
-use Rattle.psci_tree.proofs.Words.{◌∷◌, ◌^◌, AreKept, recount, refl, set, size_below, span}
+use Rattle.psci_tree.proofs.Words.{◌^◌, AreKept, recount, refl, set, size_below, span}
 use Rattle.psci_tree.proofs.Words.{SpanLaws, states_in, sym}
 use Rattle.psci_tree.proofs.Words.{with_kept, ℕ}
-use Rattle.psci_tree.specs.Kept.{IsChanged, IsTurn}
+use Rattle.std.proofs.lemmas.List.Elements.{All-drop}
+use Rattle.psci_tree.proofs.Words.{All-take, kept_exchanged, MayExchange}
+use Rattle.psci_tree.proofs.Changed.{exchanged_keeps, may_exchange}
 use Rattle.psci_tree.proofs.Slices.{size_few}
 use Rattle.psci_tree.proofs.Spans.{outside, slice_place, states_long, states_off, states_on, within}
 use Rattle.psci_tree.proofs.Spans.{Within}
@@ -38,19 +40,29 @@ module _ (rows : List (List Kept)) (l p : ℕ) (k : Kept) (low : 0 < l) (high : 
 
   set_here : p < length (level_kept rows l) → kept_at after l p ≡ k
   set_here inside =
-      ap (λ (row : List Kept). get_or row p (recount [])) this_level
-      ∙ get_or-set_same (level_kept rows l) p k (recount []) inside
+      ap (λ (row : List Kept). get_or row p (recount 0 [])) this_level
+      ∙ get_or-set_same (level_kept rows l) p k (recount 0 []) inside
 
   set_beside : (q : ℕ) → (q ≡ p → ⊥) → kept_at after l q ≡ kept_at rows l q
   set_beside q n =
-      ap (λ (row : List Kept). get_or row q (recount [])) this_level
-      ∙ get_or-set_other (level_kept rows l) p q k (recount []) n
+      ap (λ (row : List Kept). get_or row q (recount 0 [])) this_level
+      ∙ get_or-set_other (level_kept rows l) p q k (recount 0 []) n
 
   set_other : (m q : ℕ) → 0 < m → (m ≡ l → ⊥) → kept_at after m q ≡ kept_at rows m q
   set_other m q some n =
-      ap (λ (row : List Kept). get_or row q (recount [])) (other_level m some n)
+      ap (λ (row : List Kept). get_or row q (recount 0 [])) (other_level m some n)
 
 -- Level by level ---------------------------------------------------------------------------------
+
+-- the domains below this level keep what is so of the new states, and those from it up of the old
+pub record IsChanged (levels : List (List ℕ)) (old new : List CoreState) (rows : List (List Kept))
+    (level : ℕ) : Type 0 where
+  pub shape : HasRows levels rows
+  pub done : (l : ℕ) → 0 < l → l < level → l ≤ length levels → IsKeptOn levels new rows l
+  pub left : (l : ℕ) → 0 < l → level ≤ l → l ≤ length levels → IsKeptOn levels old rows l
+
+abbrev IsSmall : CoreState → Type 0
+IsSmall c = c.known ≤ 2 ^ 32
 
 -- a core that came into another state
 pub record OneChanged (levels : List (List ℕ)) (old : List CoreState) (core : ℕ) (s : CoreState)
@@ -78,40 +90,47 @@ module _ (levels : List (List ℕ)) (old : List CoreState) (core : ℕ) (s : Cor
   below : Within levels node core
   below = within levels node core one.tree top one.there refl
 
-  -- what the domain on its path is to keep
-  pub turn_at : (before after : Kept)
-      → ((c : CoreState) → Keeps before (get_or old core c ∷ [])) → Keeps after (s ∷ [])
-      → IsTurn levels (set old core s) rows node before after
-  turn_at before after was comes = record {
-    node = has;
-    above = low;
-    count = length-set old core s ∙ one.count;
-    small = one.small;
-    shape = so_far.shape;
-    below = λ two. so_far.done (level - 1) (omega arith) (omega arith) (omega arith);
-    old = states_in levels old node;
-    place = core - (span levels node).first;
-    state = s;
-    inside = omega (
-      arith,
-      below.from,
-      below.to,
-      states_long levels old node one.laws one.count has,
-    );
-    few = omega (
-      arith,
-      states_long levels old node one.laws one.count has,
-      one.laws.inside node has,
-      size_few levels one.tree,
-    );
-    now = states_on levels old node core s below;
-    kept = so_far.left level low (omega arith) top (place_above levels level core) fits;
-    was = λ c. rw (slice_place old (span levels node).first (span levels node).count core c
-        below.from below.to) (was c);
-    comes = comes;
-  }
+  -- the states below the domain on its path, and the place of the core among them
+  abbrev own : List CoreState
+  own = states_in levels old node
 
-  here : (k : Kept) → Keeps k (states_in levels (set old core s) node)
+  abbrev place : ℕ
+  place = core - (span levels node).first
+
+  inside : place < length own
+  inside = omega (arith, below.from, below.to, states_long levels old node one.laws one.count has)
+
+  few : length own < 2 ^ 15
+  few = omega (
+    arith,
+    states_long levels old node one.laws one.count has,
+    one.laws.inside node has,
+    size_few levels one.tree,
+  )
+
+  kept : Keeps level (kept_at rows level node.place) own
+  kept = so_far.left level low (omega arith) top (place_above levels level core) fits
+
+  now : states_in levels (set old core s) node ≡ set own place s
+  now = states_on levels old node core s below
+
+  state_was : (was : CoreState) → was ≡ get_or old core was → was ≡ get_or own place was
+  state_was was is = is ∙ sym (slice_place old (span levels node).first (span levels node).count
+      core was below.from below.to)
+
+  small_in : AreSmall (set own place s)
+  small_in = rw (sym now) (All-take IsSmall (span levels node).count
+      (drop (span levels node).first (set old core s))
+      (All-drop IsSmall (span levels node).first (set old core s) one.small))
+
+  -- the domain on its path may exchange the states
+  pub may_at : (was : CoreState) → was ≡ get_or old core was → s.known ≤ 2 ^ 32
+      → MayExchange level (kept_at rows level node.place) was s
+  may_at was is small =
+      may_exchange level own place was s (kept_at rows level node.place) inside (state_was was is)
+      kept few small
+
+  here : (k : Kept) → Keeps level k (states_in levels (set old core s) node)
       → IsKeptOn levels (set old core s) (with_kept rows node k) level
   here k keeps = λ p inside. elim (cases_eq p (place_above levels level core)) [
     | inl e ↦
@@ -130,9 +149,9 @@ module _ (levels : List (List ℕ)) (old : List CoreState) (core : ℕ) (s : Cor
         (so_far.left level low (omega arith) top p inside)
   ]
 
-  pub changed_more : (k : Kept) → Keeps k (states_in levels (set old core s) node)
+  with_more : (k : Kept) → Keeps level k (states_in levels (set old core s) node)
       → IsChanged levels old (set old core s) (with_kept rows node k) (level + 1)
-  changed_more k keeps = record {
+  with_more k keeps = record {
     shape = set_shape rows level (place_above levels level core) k low high levels so_far.shape;
     done = λ l some h tall. elim (cases_eq l level) [
       | inl is ↦ rw is (here k keeps)
@@ -145,6 +164,13 @@ module _ (levels : List (List ℕ)) (old : List CoreState) (core : ℕ) (s : Cor
         (λ e. absurd (omega (arith, e, h))))
         (so_far.left l some (omega (arith, h)) tall p inside);
   }
+
+  -- and once it has, it keeps what is so of the new states
+  pub changed_more : (was : CoreState) → was ≡ get_or old core was
+      → IsChanged levels old (set old core s)
+      (with_kept rows node (kept_exchanged level (kept_at rows level node.place) was s)) (level + 1)
+  changed_more was is = with_more _ (rw now (exchanged_keeps level own place was s
+      (kept_at rows level node.place) inside (state_was was is) kept small_in))
 
 -- What is kept of all levels ----------------------------------------------------------------------
 

@@ -13,7 +13,6 @@ pub mod Levels
 pub mod Looked
 pub mod Lows
 pub mod OffOnes
-pub mod OnWay
 pub mod PathStands
 pub mod Ranges
 pub mod Rows

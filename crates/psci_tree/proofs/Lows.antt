@@ -1,8 +1,8 @@
--- What some cores and others beside them ask at least.
-use Rattle.psci_state.specs.declared.cores.Activity.TheVariants.{Away, Suspended}
-use Rattle.psci_tree.proofs.Words.{◌++◌, ◌∙◌, ◌∷◌, ◌≡◌, ◌≤◌, [], Active, Activity, ap, arith, asks}
-use Rattle.psci_tree.proofs.Words.{CoreState, false, get_or, is_active, Kept, least, List, low_in}
-use Rattle.psci_tree.proofs.Words.{lows_together, map, min, recount, refl, true, ℕ}
+-- What some cores ask at least, by how many ask each depth.
+use Rattle.std.proofs.lemmas.Bool.{cases_lt}
+use Rattle.psci_tree.proofs.Words.{◌+◌, ◌++◌, ◌<◌, ◌==◌, ◌∷◌, ◌≡◌, ◌≤◌, [], arith, asking_in, asks}
+use Rattle.psci_tree.proofs.Words.{cases_eq, cond, CoreState, eq-eqb, inl, inr, least, List}
+use Rattle.psci_tree.proofs.Words.{low_in, map, min, ne_eqb, refl, set, suc, sum_by-cons, zero, ℕ}
 
 pub least_le : (ds : List ℕ) → least ds ≤ 3
 least_le [] = omega arith
@@ -13,68 +13,100 @@ low-append : (level : ℕ) (xs ys : List CoreState)
 low-append level [] ys = omega (arith, least_le (map (λ c. asks c.activity level) ys))
 low-append level (x ∷ xs) ys = omega (arith, low-append level xs ys)
 
-pub lows-append : (xs ys : List CoreState)
-    → (recount (xs ++ ys)).lows ≡ lows_together (recount xs).lows (recount ys).lows
-lows-append xs ys = simp low-append
-
--- Core by core, and domain by domain -------------------------------------------------------------
-
--- what the cores below these domains ask at least
-abbrev pub lows_of : List Kept → List ℕ
-lows_of ks = map (λ level. least (map (λ (k : Kept). get_or k.lows level 0) ks))
-    (0 ∷ 1 ∷ 2 ∷ 3 ∷ [])
-
-least-push : (level : ℕ) (ks : List Kept) (k : Kept)
-    → least (map (λ (j : Kept). get_or j.lows level 0) (ks ++ k ∷ []))
-    ≡ min (least (map (λ (j : Kept). get_or j.lows level 0) ks)) (get_or k.lows level 0)
-least-push level [] k = omega arith
-least-push level (j ∷ ks) k = omega (arith, least-push level ks k)
-
-pub lows-push : (ks : List Kept) (k : Kept)
-    → lows_of (ks ++ k ∷ []) ≡ lows_together (lows_of ks) k.lows
-lows-push ks k = simp least-push
-
-low-push : (level : ℕ) (cs : List CoreState) (c : CoreState)
+-- one core more
+pub low-push : (level : ℕ) (cs : List CoreState) (c : CoreState)
     → low_in level (cs ++ c ∷ []) ≡ min (low_in level cs) (asks c.activity level)
 low-push level cs c =
     omega (arith, low-append level cs (c ∷ []), least_le (map (λ x. asks x.activity level) cs))
 
--- what one core more asks, what an active one leaves, and what one that is off does not change
-pub ask-more : (cs : List CoreState) (c : CoreState) (ask : List ℕ) → c.activity ≡ Suspended ask
-    → (recount (cs ++ c ∷ [])).lows ≡ lows_together (recount cs).lows ask
-ask-more cs c ask is =
-    let same : (level : ℕ) → low_in level (cs ++ c ∷ [])
-    ≡ min (low_in level cs) (get_or ask level 0) =
-    λ level. low-push level cs c ∙ ap (λ (a : Activity). min (low_in level cs) (asks a level)) is in
-    simp same
+-- By how many ask each depth ----------------------------------------------------------------------
 
-active-asks : (a : Activity) (level : ℕ) → is_active a ≡ true → asks a level ≡ 0
-active-asks Active level is = refl
-active-asks (Suspended ask) level is = grind arith
-active-asks Away level is = grind arith
+asking_cons : (level depth : ℕ) (c : CoreState) (cs : List CoreState)
+    → asking_in level depth (c ∷ cs)
+    ≡ cond (asks c.activity level == depth) 1 0 + asking_in level depth cs
+asking_cons level depth c cs =
+    sum_by-cons (λ (x : CoreState). cond (asks x.activity level == depth) 1 0) c cs
 
-away-asks : (a : Activity) (level : ℕ) → is_active a ≡ false
-    → ((ask : List ℕ) → a ≡ Suspended ask → ⊥) → asks a level ≡ 3
-away-asks Active level is other = grind arith
-away-asks (Suspended ask) level is other = absurd (other ask refl)
-away-asks Away level is other = refl
+-- where one asks this depth, no more is asked
+pub low_at_most : (level depth : ℕ) (cs : List CoreState) → 0 < asking_in level depth cs
+    → low_in level cs ≤ depth
+low_at_most level depth [] h = absurd (omega arith)
+low_at_most level depth (c ∷ cs) h = elim (cases_eq (asks c.activity level) depth) [
+  | inl e ↦ omega (arith, e)
+  | inr n ↦
+      let none : cond {A = ℕ} (asks c.activity level == depth) 1 0 ≡ 0 =
+      rw (ne_eqb (asks c.activity level) depth n) refl in
+      let rest : 0 < asking_in level depth cs =
+      omega (arith, h, none, asking_cons level depth c cs) in
+      omega (arith, low_at_most level depth cs rest)
+]
 
-pub active-more : (cs : List CoreState) (c : CoreState) → is_active c.activity ≡ true
-    → (recount (cs ++ c ∷ [])).lows ≡ 0 ∷ 0 ∷ 0 ∷ 0 ∷ []
-active-more cs c active =
-    let none : (level : ℕ) → low_in level (cs ++ c ∷ []) ≡ 0 =
-    λ level. omega (arith, low-push level cs c, active-asks c.activity level active) in
-    simp none
+-- where none asks a lesser depth, as much is asked
+pub low_at_least : (level most : ℕ) (cs : List CoreState) → most ≤ 3
+    → ((depth : ℕ) → depth < most → asking_in level depth cs ≡ 0) → most ≤ low_in level cs
+low_at_least level most [] h none = h
+low_at_least level most (c ∷ cs) h none =
+    let rest = low_at_least level most cs h (λ depth less.
+    omega (arith, none depth less, asking_cons level depth c cs)) in
+    elim (cases_lt (asks c.activity level) most) [
+      | inl less ↦
+          let one : cond {A = ℕ} (asks c.activity level == asks c.activity level) 1 0 ≡ 1 =
+          rw (eq-eqb (asks c.activity level) (asks c.activity level) refl) refl in
+          absurd (omega (
+            arith,
+            none (asks c.activity level) less,
+            one,
+            asking_cons level (asks c.activity level) c cs,
+          ))
+      | inr more ↦ omega (arith, rest, more)
+    ]
 
-pub away-more : (cs : List CoreState) (c : CoreState) → is_active c.activity ≡ false
-    → ((ask : List ℕ) → c.activity ≡ Suspended ask → ⊥)
-    → (recount (cs ++ c ∷ [])).lows ≡ (recount cs).lows
-away-more cs c inactive other =
-    let same : (level : ℕ) → low_in level (cs ++ c ∷ []) ≡ low_in level cs =
-    λ level. omega (
-      arith,
-      low-push level cs c,
-      away-asks c.activity level inactive other,
-      least_le (map (λ x. asks x.activity level) cs),
-    ) in
-    simp same
+-- the counts below a depth, one by one
+below_one : (f : ℕ → ℕ) → f 0 ≡ 0 → (depth : ℕ) → depth < 1 → f depth ≡ 0
+below_one f a zero h = a
+below_one f a (suc depth) h = absurd (omega arith)
+
+below_two : (f : ℕ → ℕ) → f 0 ≡ 0 → f 1 ≡ 0 → (depth : ℕ) → depth < 2 → f depth ≡ 0
+below_two f a b zero h = a
+below_two f a b (suc depth) h = below_one (λ d. f (suc d)) b depth (omega arith)
+
+below_three : (f : ℕ → ℕ) → f 0 ≡ 0 → f 1 ≡ 0 → f 2 ≡ 0 → (depth : ℕ) → depth < 3 → f depth ≡ 0
+below_three f a b c zero h = a
+below_three f a b c (suc depth) h = below_two (λ d. f (suc d)) b c depth (omega arith)
+
+module _ (level : ℕ) (cs : List CoreState) where
+  abbrev asking : ℕ → ℕ
+  asking depth = asking_in level depth cs
+
+  pub low_zero : 0 < asking 0 → 0 ≡ low_in level cs
+  low_zero some = omega (arith, low_at_most level 0 cs some)
+
+  pub low_one : asking 0 ≡ 0 → 0 < asking 1 → 1 ≡ low_in level cs
+  low_one a some = omega (
+    arith,
+    low_at_most level 1 cs some,
+    low_at_least level 1 cs (omega arith) (below_one asking a),
+  )
+
+  pub low_two : asking 0 ≡ 0 → asking 1 ≡ 0 → 0 < asking 2 → 2 ≡ low_in level cs
+  low_two a b some = omega (
+    arith,
+    low_at_most level 2 cs some,
+    low_at_least level 2 cs (omega arith) (below_two asking a b),
+  )
+
+  pub low_three : asking 0 ≡ 0 → asking 1 ≡ 0 → asking 2 ≡ 0 → 3 ≡ low_in level cs
+  low_three a b c = omega (
+    arith,
+    least_le (map (λ x. asks x.activity level) cs),
+    low_at_least level 3 cs (omega arith) (below_three asking a b c),
+  )
+
+-- a core alone asks one depth
+pub one_asks : (depth : ℕ) → depth ≤ 3 → set (0 ∷ 0 ∷ 0 ∷ 0 ∷ []) depth 1
+    ≡ map (λ d. 0 + cond (depth == d) 1 0) (0 ∷ 1 ∷ 2 ∷ 3 ∷ [])
+one_asks zero h = refl
+one_asks (suc zero) h = refl
+one_asks (suc (suc zero)) h = refl
+one_asks (suc (suc (suc zero))) h = refl
+one_asks (suc (suc (suc (suc d)))) h = absurd (omega arith)

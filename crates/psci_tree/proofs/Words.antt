@@ -1,5 +1,6 @@
 -- The words of std and of definitions that proofs here speak in.
-pub use Rattle.std.proofs.Common.{◌&&◌, ◌++◌, ◌+◌, ◌-◌, ◌<◌, ◌==◌, ◌^◌, ◌∙◌, ◌∷◌, ◌≡◌, ◌≢◌, ◌≤◌, []}
+pub use Rattle.std.proofs.Common.{◌*◌, ◌&&◌, ◌++◌, ◌+◌, ◌-◌, ◌<◌, ◌==◌, ◌^◌, ◌∙◌, ◌∷◌, ◌≡◌, ◌≢◌}
+pub use Rattle.std.proofs.Common.{◌≤◌, []}
 pub use Rattle.std.proofs.Common.{add-one, ap, append-nil, append_assoc, arith, Bool, cond, drop}
 pub use Rattle.std.proofs.Common.{drop-cons, false, filter, get_or, inl, inr, leb, length}
 pub use Rattle.std.proofs.Common.{length-append, List, map, min, nat_lt, not, refl, replicate}
@@ -36,9 +37,9 @@ pub use Rattle.psci_tree.specs.Changes.{rows_with_depth, still_confirmed, with_c
 pub use Rattle.psci_tree.specs.Changes.{with_path_cleared}
 pub use Rattle.psci_tree.specs.DepthRows.{confirmed_of, filled, granted_of}
 pub use Rattle.psci_tree.specs.Inside.{IsHeld, IsTied}
-pub use Rattle.psci_tree.specs.Kept.{AreKept, AreSmall, gone, HasRows, IsKeptOn, IsPart, Keeps}
-pub use Rattle.psci_tree.specs.Kept.{kept_at, kept_exchanged, level_kept, low_in, lows_together}
-pub use Rattle.psci_tree.specs.Kept.{lows_told, recount, states_in, with_kept}
+pub use Rattle.psci_tree.specs.Kept.{AreKept, AreSmall, asking_else, asking_in, gone, HasRows}
+pub use Rattle.psci_tree.specs.Kept.{IsKeptOn, Keeps, kept_at, kept_exchanged, level_kept, low_in}
+pub use Rattle.psci_tree.specs.Kept.{MayExchange, recount, states_in, with_kept}
 pub use Rattle.psci_tree.specs.Recount.{ask_at, asks, confirmed_at, granted_at, is_active}
 pub use Rattle.psci_tree.specs.Recount.{is_active_at, is_away, IsActivity, IsDomainTree, known}
 pub use Rattle.psci_tree.specs.Recount.{known_at, least, level_sizes, low, never_started, state_at}

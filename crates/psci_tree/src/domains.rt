@@ -1,12 +1,13 @@
 //! What the power domains above the cores keep: a row for each level.
 
 ghost use Rattle.std.specs.Prelude.{◌≡◌, ◌<◌, ◌≤◌, ◌∷◌, [], drop, length, map, replicate, IfOk};
-ghost use Rattle.std.specs.Prelude.{slice_index_or, IsSomeAnd, IsTrue, false};
+ghost use Rattle.std.specs.Prelude.{slice_index_or};
 ghost use Rattle.psci_board.specs.Board.{HasNode, IsBoard, height, size_below, span};
 ghost use Rattle.psci_state.specs.declared.cores.CoreState.{CoreState};
 ghost use Rattle.psci_tree.specs.Recount.{never_started};
-ghost use Rattle.psci_tree.specs.Kept.{AreKept, IsOffRow, Keeps, MayExchange, gone, kept_at, kept_told, level_kept};
-ghost use Rattle.psci_tree.specs.Kept.{with_kept};
+ghost use Rattle.psci_tree.specs.Kept.{AreKept, IsOffRow, Keeps, MayExchange, gone, kept_at};
+ghost use Rattle.psci_tree.specs.Kept.{kept_exchanged};
+ghost use Rattle.psci_tree.specs.Kept.{level_kept, with_kept};
 
 use crate::kept::Kept;
 use psci_board::{Board, Memory, Node, law_spans};
@@ -41,12 +42,12 @@ fn row_kept(alloc: Global, board: &Board, level: u32) -> Result<Vec<Kept>, Memor
 }
 
 /// How many cores are below a node.
-fn count_below(board: &Board, node: Node) -> u32
+fn count_below(board: &Board, node: Node) -> u16
     requires { HasNode board.now node }
     ensures { result ≡ (span board.now.levels node).count }
 {
     match board.cores_below(node) {
-        Some(span) => u32::from(span.count),
+        Some(span) => span.count,
         None => 0,
     }
 }
@@ -77,7 +78,7 @@ pub fn kept_of(cores: &[CoreState], rows: &[Vec<Kept>], node: Node) -> Kept
     requires place { 0 < node.level
         → node.place < length (level_kept (map (λ v. v.items) rows.now) node.level) }
     ensures core { (c : CoreState) → node.level ≡ 0
-        → Keeps result (slice_index_or cores.now node.place c ∷ []) }
+        → Keeps 0 result (slice_index_or cores.now node.place c ∷ []) }
     ensures domain { 0 < node.level
         → result ≡ kept_at (map (λ v. v.items) rows.now) node.level node.place }
 {
@@ -99,33 +100,18 @@ pub fn kept_at(rows: &[Vec<Kept>], node: Node) -> &Kept
     &row[node.place as usize]
 }
 
-/// A domain keeps this from now on.
-pub fn write(rows: &mut [Vec<Kept>], node: Node, kept: Kept)
+/// One of the cores below a domain came from a state into another.
+pub fn exchange(rows: &mut [Vec<Kept>], node: Node, was: &CoreState, is: &CoreState)
     requires above { 0 < node.level }
     requires level { node.level ≤ length rows.old }
     requires place { node.place
         < length (level_kept (map (λ v. v.items) rows.old) node.level) }
-    ensures { map (λ v. v.items) rows.new ≡ with_kept (map (λ v. v.items) rows.old) node kept }
+    requires may { MayExchange node.level
+        (kept_at (map (λ v. v.items) rows.old) node.level node.place) was.now is.now }
+    ensures { map (λ v. v.items) rows.new ≡ with_kept (map (λ v. v.items) rows.old) node
+        (kept_exchanged node.level (kept_at (map (λ v. v.items) rows.old) node.level node.place)
+        was.now is.now) }
 {
     let row = &mut rows[node.level as usize - 1];
-    row[node.place as usize] = kept;
-}
-
-/// What a domain keeps is exchanged in place, where the numbers then tell what the cores below ask
-/// at least. Whether they do; else nothing changes.
-pub fn exchange(rows: &mut [Vec<Kept>], node: Node, before: &Kept, after: &Kept) -> bool
-    requires above { 0 < node.level }
-    requires level { node.level ≤ length rows.old }
-    requires place { node.place
-        < length (level_kept (map (λ v. v.items) rows.old) node.level) }
-    requires may { MayExchange (kept_at (map (λ v. v.items) rows.old) node.level node.place)
-        before.now after.now }
-    ensures told { IsTrue result → IsSomeAnd (kept_told (kept_at (map (λ v. v.items) rows.old)
-        node.level node.place) before.now after.now) (λ kept. map (λ v. v.items) rows.new
-        ≡ with_kept (map (λ v. v.items) rows.old) node kept) }
-    ensures untold { result ≡ false
-        → map (λ v. v.items) rows.new ≡ map (λ v. v.items) rows.old }
-{
-    let row = &mut rows[node.level as usize - 1];
-    row[node.place as usize].exchange(before, after)
+    row[node.place as usize].exchange(node.level, was, is);
 }

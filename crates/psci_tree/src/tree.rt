@@ -1,6 +1,7 @@
 //! The tree of power domains.
 
 use crate::beside::{Rows, rows_of};
+use crate::core_change::least_of;
 use crate::depths::Depths;
 use crate::domains::{kept_at, kept_of};
 use crate::grants::depths_at;
@@ -109,7 +110,10 @@ impl Tree {
         if level > self.board.height() {
             return 0;
         }
-        self.kept(node).lows[level as usize]
+        if level == node.level {
+            return self.kept(node).low();
+        }
+        least_of(self.states(node), level)
     }
 
     /// The sum of the known starts of the cores below a domain.
@@ -125,7 +129,7 @@ impl Tree {
         requires { HasNodeIn self.now.levels node }
         ensures { result ≡ active self.now node }
     {
-        self.kept(node).active
+        u32::from(self.kept(node).active)
     }
 
     /// How many cores below a domain are off or going off.
@@ -133,7 +137,7 @@ impl Tree {
         requires { HasNodeIn self.now.levels node }
         ensures { result ≡ off self.now node }
     {
-        self.kept(node).off
+        u32::from(self.kept(node).off)
     }
 
     /// How the domain of this level on the path of a core stands.
@@ -150,13 +154,13 @@ impl Tree {
         if level == 0 {
             let own = self.kept(node);
             return Standing {
-                low: own.lows[0],
+                low: own.low(),
                 known: own.known,
             };
         }
         let kept = self.kept_above(node);
         Standing {
-            low: kept.lows[level as usize],
+            low: kept.low(),
             known: kept.known,
         }
     }
@@ -252,11 +256,26 @@ impl Tree {
             .unwrap_or(NEVER_STARTED)
     }
 
+    /// The states of the cores below a node.
+    fn states(&self, node: Node) -> &[CoreState]
+        requires { HasNodeIn self.now.levels node }
+        ensures { result.now ≡ map (λ c. state_at self.now c) (below_in self.now.levels node) }
+    {
+        law_spans();
+        match self.board.cores_below(node) {
+            Some(span) => {
+                let first = span.first as usize;
+                &self.cores[first..first + span.count as usize]
+            }
+            None => &[],
+        }
+    }
+
     /// What a domain above the cores keeps of those below it.
     fn kept_above(&self, node: Node) -> &Kept
         requires domain { HasNodeIn self.now.levels node }
         requires above { 0 < node.level }
-        ensures { Keeps result.now
+        ensures { Keeps node.level result.now
             (map (λ c. state_at self.now c) (below_in self.now.levels node)) }
     {
         law_spans();
@@ -266,7 +285,8 @@ impl Tree {
     /// What is kept of the cores below a node.
     fn kept(&self, node: Node) -> Kept
         requires { HasNodeIn self.now.levels node }
-        ensures { Keeps result (map (λ c. state_at self.now c) (below_in self.now.levels node)) }
+        ensures { Keeps node.level result
+            (map (λ c. state_at self.now c) (below_in self.now.levels node)) }
     {
         law_spans();
         kept_of(&self.cores, &self.kept, node)

@@ -1,7 +1,7 @@
 -- One place is exchanged, in the row of its level.
-use Rattle.std.proofs.lemmas.List.{set-get_or}
 use Rattle.psci_tree.proofs.Words.{◌-◌, ◌∙◌, ◌≡◌, [], ap, arith, get_or, get_or-map, Kept}
 use Rattle.psci_tree.proofs.Words.{get_or_default, kept_at, level_kept, List, map, map-set}
+use Rattle.psci_tree.proofs.Words.{kept_exchanged}
 use Rattle.psci_tree.proofs.Words.{recount, set, sym, with_item}
 use Rattle.psci_tree.proofs.domains.exchange.Goals.{After-exchange}
 use Rattle.psci_tree.proofs.domains.exchange.Goals as goal
@@ -19,7 +19,7 @@ row c = get_or-map (λ v. v.items) c.args.rows.now (c.args.node.level - 1) c.ind
 was : (c : After-exchange) → kept_at (before c) c.args.node.level c.args.node.place
     ≡ c.index_mut.result.now
 was c =
-    get_or_default (level_kept (before c) c.args.node.level) c.args.node.place (recount [])
+    get_or_default (level_kept (before c) c.args.node.level) c.args.node.place (recount 0 [])
     c.index_mut.result.now c.requires.place
     ∙ ap (λ (xs : List Kept). get_or xs c.args.node.place c.index_mut.result.now) (row c)
     ∙ sym c.index_mut.ensures.value
@@ -37,17 +37,11 @@ after c =
     ∙ ap (λ xs. set (before c) (c.args.node.level - 1) (set xs c.args.node.place
     c.exchange.new.self)) (sym (row c))
 
-pub returns-clause-told : goal.returns-clause-told
-returns-clause-told c t =
-    let at = (goal.at.returns-clause-told c).After-exchange in
-    rw (was at, c.exchange.ensures.told t) (after at)
-
-pub returns-clause-untold : goal.returns-clause-untold
-returns-clause-untold c t =
-    let at = (goal.at.returns-clause-untold c).After-exchange in
-    let row : List Kept = level_kept (before at) c.args.node.level in
+pub returns : goal.returns
+returns c =
+    let at = (goal.at.returns c).After-exchange in
     after at
-    ∙ ap (λ k. set (before at) (c.args.node.level - 1) (set row c.args.node.place k))
-    ((c.exchange.ensures.untold t).1 ∙ sym (was at))
-    ∙ ap (set (before at) (c.args.node.level - 1)) (set-get_or row c.args.node.place (recount []))
-    ∙ set-get_or (before at) (c.args.node.level - 1) []
+    ∙ ap (λ k. set (before at) (c.args.node.level - 1) (set
+    (level_kept (before at) c.args.node.level) c.args.node.place k))
+    (c.exchange.ensures ∙ ap (λ k. kept_exchanged c.args.node.level k c.args.was.now
+    c.args.is.now) (sym (was at)))

@@ -6,7 +6,7 @@ use Rattle.psci_tree.proofs.domains.row_kept.Given as goal
 abbrev pub invariant-loop-place : goal.invariant-loop-place
 invariant-loop-place l = record {
   count : length l.row.items ≡ l.place;
-  each : (p : ℕ) → p < l.place → Keeps (get_or l.row.items p (recount []))
+  each : (p : ℕ) → p < l.place → Keeps l.fn.level (get_or l.row.items p (recount 0 []))
       (replicate (span l.board.levels (record { level = l.fn.level; place = p })).count
       never_started);
 }

@@ -5,7 +5,7 @@ use Rattle.psci_tree.proofs.Gone.{gone_all, gone_more, gone_to}
 use Rattle.psci_tree.proofs.domains.turn_off_row.Goals as goal
 
 abbrev none : Kept
-none = record { known = 0; lows = []; cores = 0; active = 0; off = 0 }
+none = record { known = 0; asking = []; cores = 0; active = 0; off = 0 }
 
 pub loop-place-preserved : goal.loop-place-preserved
 loop-place-preserved c =
@@ -13,7 +13,7 @@ loop-place-preserved c =
     let now : List Kept = c.loop-place.row in
     let place : ℕ = c.loop-place.place in
     let read : c.never_started.result ≡ gone (get_or now place none) =
-    c.never_started.ensures.counted in
+    (c.never_started.ensures 0).counted in
     let next : suc place ≡ place + 1 = omega arith in
     ap (set now place) read
     ∙ ap (λ (row : List Kept). set row place (gone (get_or row place none)))

@@ -5,5 +5,5 @@ use Rattle.psci_tree.proofs.tree.Tree.active.Goals as goal
 
 pub returns : goal.returns
 returns c =
-    ap (λ (k : Kept). k.active) c.kept.ensures.counted
+    c.from.ensures ∙ ap (λ (k : Kept). k.active) c.kept.ensures.counted
     ∙ active_is c.args.self.now c.args.node _ refl

@@ -18,8 +18,8 @@ returns c =
     rw (states_slice t n laws held.tied.valid.cores c.requires)
     (node_keeps t.levels t.cores (kept_in c.self.inside) n c.kept_of.result laws
     held.tied.valid.cores c.requires
-    (λ d e. subst (λ (cs : List CoreState). Keeps c.kept_of.result (get_or cs n.place d ∷ [])) same
-    (c.kept_of.ensures.core d e))
+    (λ d e. subst (λ (cs : List CoreState). Keeps 0 c.kept_of.result (get_or cs n.place d ∷ []))
+    same (c.kept_of.ensures.core d e))
     (λ some. c.kept_of.ensures.domain some
     ∙ ap (λ vs. kept_at (map (λ v. v.items) vs) n.level n.place) c.deref-2.ensures.value)
     (λ some. held.tied.kept.each n.level some c.requires.level))

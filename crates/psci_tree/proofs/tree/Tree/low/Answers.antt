@@ -1,9 +1,9 @@
 -- The least ask is kept in the domain; above the board nothing is asked.
 use Rattle.std.proofs.lemmas.List.FromFn.{length-range_with_len}
-use Rattle.psci_tree.proofs.Words.{◌<◌, ◌∙◌, ap, arith, below_in, length, refl, span, SpanLaws}
-use Rattle.psci_tree.proofs.Words.{TreeValue}
-use Rattle.psci_tree.proofs.Keeping.{keeps_low}
-use Rattle.psci_tree.proofs.PathStands.{low_is, low_above}
+use Rattle.psci_tree.proofs.Words.{◌<◌, ◌∙◌, ap, arith, below_in, length, low_in, refl, span}
+use Rattle.psci_tree.proofs.Words.{SpanLaws}
+use Rattle.psci_tree.proofs.Words.{sym, TreeValue}
+use Rattle.psci_tree.proofs.PathStands.{low_above, low_is, states}
 use Rattle.psci_tree.proofs.Seen.{held_seen}
 use Rattle.psci_tree.proofs.tree.Tree.low.Goals as goal
 
@@ -25,14 +25,20 @@ returns-then-level-height c =
       ap (λ (v : TreeValue). length v.levels) c.self.view_is,
     ))
 
-pub returns : goal.returns
-returns c =
-    keeps_low _ _ c.args.level c.kept.ensures (omega (
+pub returns-then-level-node : goal.returns-then-level-node
+returns-then-level-node c =
+    c.low.ensures c.args.node.level _ c.kept.ensures
+    ∙ ap (λ l. low_in l (states c.args.self.now c.args.node)) (sym c.if-level-node.true)
+    ∙ low_is c.args.self.now c.args.node c.args.level _ refl (omega (
       arith,
       c.if-level-height.false,
       c.height.ensures.height,
-      c.height.ensures.board.high,
+      ap (λ (v : TreeValue). length v.levels) c.self.view_is,
     ))
+
+pub returns : goal.returns
+returns c =
+    c.least_of.ensures ∙ ap (low_in c.args.level) c.states.ensures
     ∙ low_is c.args.self.now c.args.node c.args.level _ refl (omega (
       arith,
       c.if-level-height.false,

@@ -5,5 +5,5 @@ use Rattle.psci_tree.proofs.tree.Tree.off.Goals as goal
 
 pub returns : goal.returns
 returns c =
-    ap (λ (k : Kept). k.off) c.kept.ensures.counted
+    c.from.ensures ∙ ap (λ (k : Kept). k.off) c.kept.ensures.counted
     ∙ off_is c.args.self.now c.args.node _ refl
