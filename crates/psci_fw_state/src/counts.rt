@@ -11,7 +11,7 @@ ghost use Rattle.psci_fw_state.specs.Counts.{status_counted, with_counts};
 ghost use Rattle.psci_fw_state.specs.Rows.{AreFirst, row_at, status_at};
 
 use crate::row::CoreRow;
-use psci_board::{Board, Core, Memory, Node, law_paths};
+use psci_board::{Board, Core, MOST_ON_PATH, Memory, Node, law_paths};
 use psci_fw_spec::Status;
 use psci_tree::Tree;
 use std::alloc::Global;
@@ -179,7 +179,11 @@ fn recount(
     let had = StatusCounts::of_core(before);
     let has = StatusCounts::of_core(after);
     let places = tree.places(core);
-    for level in 1..board.height() + 1 {
+    // so many turns at most, which a compiler lays out one after the other
+    for level in 1..MOST_ON_PATH as u32 {
+        if level > board.height() {
+            break;
+        }
         let node = Node {
             level,
             place: places[level as usize],
