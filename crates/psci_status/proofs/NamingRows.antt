@@ -1,4 +1,4 @@
--- Worked examples: which core's status a call may change, by its effect and by its outcome.
+-- Worked examples: which core's status a call may change, by its effect and by its reply.
 use Rattle.std.proofs.Common.{ℕ, pos, negsuc, true, false, List, [], ◌∷◌, map, None, Some, refl}
 use Rattle.std.specs.Prelude.{Bool, Option}
 use Rattle.psci_messages.specs.declared.kind.Kind.{Kind}

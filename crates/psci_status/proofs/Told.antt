@@ -1,5 +1,5 @@
--- What a call tells that was not refused: there is a life, and the core that it may change is of the
--- board.
+-- What a call tells that was not refused: there is a life, and the core that it may change is
+-- one of the board.
 use Rattle.std.proofs.Common.{◌≡◌, ◌≢◌, ℕ, ◌<◌, List, Bool, true, false, refl, sym, ap, ◌∙◌}
 use Rattle.std.proofs.Common.{Option, None, Some, Result, Ok, Err, subst, arith}
 use Rattle.std.specs.Prelude.{◌==◌, ◌&&◌, not, option_map, IfSome}
