@@ -176,7 +176,7 @@ impl Held {
     pub fn board(&self) -> &Board
         ensures { result.now ≡ self.now.polled.firmware.board }
     {
-        self.common.naming.board()
+        self.polled.firmware().board()
     }
 
     /// The firmware, to read.

@@ -175,6 +175,13 @@ impl Firmware {
         (self.state.life() != 0).then(|| self.state.node_status(node))
     }
 
+    /// The board whose firmware it is.
+    pub fn board(&self) -> &Board
+        ensures { result.now ≡ self.now.board }
+    {
+        self.state.board()
+    }
+
     /// The status of a core of the board.
     pub fn core_status(&self, core: Core) -> Status
         requires { core.number < cores self.now.board }

@@ -112,7 +112,7 @@ start_sent None true v found m e = ap sent_kind e
 start_sent None false v (Err code) m e = ap sent_kind e
 start_sent None false v (Ok target) m e = ap sent_kind e
 
-slot_of_start : (b : BoardValue) (m : MessageValue) → m.kind ≡ kinds.Start
+pub slot_of_start : (b : BoardValue) (m : MessageValue) → m.kind ≡ kinds.Start
     → slot_number b m ≡ m.core.number
 slot_of_start b m e = ap (λ (k : Kind). number_of b (slot_of k m.core)) e
 

@@ -168,7 +168,7 @@ no_less l l' w w' s s' (inr (inl (same, more))) = omega arith
 no_less l l' w w' s s' (inr (inr more)) = omega arith
 
 -- what the laws of the firmware say
-abbrev Kept : Type 0
+abbrev pub Kept : Type 0
 Kept = (b : BoardValue) (e : FwExchange) (h : List FwExchange) → IsBoard b → IsLegal b (e ∷ h)
     → IsAllowed b (values_of b h) (effect b e)
 

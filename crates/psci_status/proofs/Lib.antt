@@ -13,4 +13,5 @@ pub mod RuleRows
 mod SeatRows
 pub mod StepRows
 pub mod Steps
+pub mod Told
 mod WritingRows

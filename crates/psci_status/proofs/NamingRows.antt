@@ -1,4 +1,4 @@
--- Worked examples: which core's status a call may change, by its effect and by its outcome.
+-- Worked examples: which core's status a call may change, by its effect and by its reply.
 use Rattle.std.proofs.Common.{ℕ, pos, negsuc, true, false, List, [], ◌∷◌, map, None, Some, refl}
 use Rattle.std.specs.Prelude.{Bool, Option}
 use Rattle.psci_messages.specs.declared.kind.Kind.{Kind}
@@ -6,6 +6,8 @@ use Rattle.psci_messages.specs.declared.kind.Kind.TheVariants as kinds
 use Rattle.psci_messages.specs.declared.start.Cause.TheVariants.{Boot, Wake}
 use Rattle.psci_messages.specs.declared.start.Cause.TheVariants as causes
 use Rattle.psci_messages.specs.declared.start.Start.{Start}
+use Rattle.psci_messages.specs.declared.taken.Taken.{Taken}
+use Rattle.psci_messages.specs.declared.taken.Taken.TheVariants as takens
 use Rattle.psci_messages.specs.Message.{AckValue, MessageValue}
 use Rattle.psci_fw_spec.specs.declared.mode.SuspendMode.TheVariants.{OsInitiated}
 use Rattle.psci_fw_spec.specs.declared.outcome.Act.TheVariants as acts
@@ -13,7 +15,7 @@ use Rattle.psci_fw_spec.specs.Changes.{PowerOn}
 use Rattle.psci_fw_spec.specs.Effects.{Effect, Nothing, GoesOn, SetsMode, AsksOn, Rests, Halts}
 use Rattle.psci_fw_spec.specs.Effects.{Stops, Enters, Parks, StopsAtOnce, Acknowledges, going_off}
 use Rattle.psci_fw_spec.specs.Exchange.{FwExchange, effect}
-use Rattle.psci_status.specs.Naming.{asked_by, is_named, names, sent_beside, slot_beside}
+use Rattle.psci_status.specs.Naming.{asked_by, is_named, names, sent_beside, slot_beside, used_by}
 use Rattle.psci_status.proofs.Calls.{Step, board, boots, computing, enters, history, off, on}
 use Rattle.psci_status.proofs.Calls.{system_off, takes}
 use Rattle.psci_abi.proofs.Tables.{◌⇒◌, Gives}
@@ -140,6 +142,16 @@ by_slot : Gives of_slot
     ∷ (acts.Enter 8 0, Some 3) ⇒ None
     ∷ (acts.Resume, Some 3) ⇒ None ∷ [])
 by_slot = refl
+
+-- what was said of an acknowledgement, and its core
+abbrev of_ack : Taken × ℕ → Option Core
+of_ack (taken, c) = used_by taken (record { number = c })
+
+by_ack : Gives of_ack
+    ((takens.Used, 3) ⇒ Some (record { number = 3 })
+    ∷ (takens.Used, 0) ⇒ Some (record { number = 0 })
+    ∷ (takens.Old, 3) ⇒ None ∷ [])
+by_ack = refl
 
 -- which of the cores 0 to 3 it is
 abbrev is_which : Option Core → List Bool

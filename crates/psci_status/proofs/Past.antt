@@ -34,7 +34,7 @@ use Rattle.psci_fw_spec.specs.Statuses.{added, statuses}
 use Rattle.psci_fw_spec.specs.SuspendMode.{mode_of}
 use Rattle.psci_fw_spec.specs.Values.{Values}
 use Rattle.psci_status.specs.Lists.{row}
-use Rattle.psci_status.specs.Naming.{asked_by, is_named, names, sent_beside}
+use Rattle.psci_status.specs.Naming.{asked_by, is_named, names, sent_beside, used_by}
 use Rattle.psci_status.specs.Polled.{IsPast}
 use Rattle.psci_status.specs.Writing.{written_then}
 use Rattle.psci_status.proofs.Last.{added_last, same_code, status_stays, statuses_more}
@@ -93,6 +93,13 @@ pub names_take : (b : BoardValue) (c core : ℕ) (a : AckValue) (taken : Taken)
     → names (effect_of b c (Take a) (replies.Taken taken)) core ≡ false
 names_take b c core a takens.Used other = other
 names_take b c core a takens.Old other = refl
+
+-- the same by the core of an acknowledgement that was used
+pub names_taken : (b : BoardValue) (c core : ℕ) (a : AckValue) (taken : Taken)
+    → is_named (used_by taken a.core) core ≡ false
+    → names (effect_of b c (Take a) (replies.Taken taken)) core ≡ false
+names_taken b c core a takens.Used other = other
+names_taken b c core a takens.Old other = refl
 
 -- What is kept --------------------------------------------------------------------------------
 

@@ -1,6 +1,8 @@
 -- Which core's status a call may change in the life that goes on.
 use Rattle.std.specs.Prelude.{ℕ, Bool, false, ◌==◌, Option, None, Some}
 use Rattle.psci_board.specs.declared.node.Core.{Core}
+use Rattle.psci_messages.specs.declared.taken.Taken.{Taken}
+use Rattle.psci_messages.specs.declared.taken.Taken.TheVariants.{Used, Old}
 use Rattle.psci_messages.specs.Message.{MessageValue}
 use Rattle.psci_fw_spec.specs.declared.outcome.Act.{Act}
 use Rattle.psci_fw_spec.specs.declared.outcome.Act.TheVariants as acts
@@ -30,6 +32,11 @@ asked_by o = sent_beside o.act o.message
 abbrev pub slot_beside : Act → Option ℕ → Option Core
 slot_beside (acts.Return code) (Some number) = Some (record { number = number })
 slot_beside act slot = None
+
+-- the core of an acknowledgement that was used
+abbrev pub used_by : Taken → Core → Option Core
+used_by Used core = Some core
+used_by Old core = None
 
 -- whether it is this core
 abbrev pub is_named : Option Core → ℕ → Bool

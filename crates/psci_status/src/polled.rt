@@ -3,7 +3,8 @@
 use crate::seats::{Reader, StatusWords, Writer};
 use psci_board::{Board, Core, Memory};
 use psci_fw::{Firmware, FwFault, Outcome, Reaction, Regs, Start, Taken, law_values};
-use psci_fw_spec::law_caller;
+use psci_fw_laws::law_kept;
+use psci_fw_spec::{law_caller, law_enters};
 use psci_messages::Ack;
 use std::alloc::Global;
 use std::marker::Model;
@@ -48,7 +49,7 @@ ghost use Rattle.psci_status.specs.Seats.{seen as seen_by, table, table_of_reade
 ghost use Rattle.psci_status.specs.Polled.{IsNext, IsPast};
 
 use crate::laws::law_few_statuses;
-use crate::writing::{asked_in, life_of, write_changed, write_one};
+use crate::writing::{asked_in, life_of, used_in, write_entered, write_known};
 
 impl PolledFirmware {
     /// The firmware of this board, before any core has entered, and its status words. They take the
@@ -104,6 +105,7 @@ impl PolledFirmware {
         law_values();
         law_few_statuses();
         law_caller();
+        law_kept();
         let PolledFirmware {
             firmware,
             writer,
@@ -111,7 +113,7 @@ impl PolledFirmware {
         } = self;
         let reaction = firmware.smc_in_slot::<A>(core, regs)?;
         let asked = asked_in(&reaction);
-        write_one(words, writer, firmware, asked, *cores);
+        write_known(words, writer, firmware, asked, *cores);
         Ok(reaction)
     }
 
@@ -151,6 +153,7 @@ impl PolledFirmware {
     {
         law_values();
         law_few_statuses();
+        law_enters();
         let PolledFirmware {
             firmware,
             writer,
@@ -158,7 +161,7 @@ impl PolledFirmware {
         } = self;
         let before = life_of(firmware);
         let reaction = firmware.enter_in_slot::<A>(core, start)?;
-        write_changed(words, writer, firmware, before, Some(core), *cores);
+        write_entered(words, writer, firmware, before, core, start.life, *cores);
         Ok(reaction)
     }
 
@@ -171,6 +174,7 @@ impl PolledFirmware {
     {
         law_values();
         law_few_statuses();
+        law_kept();
         let PolledFirmware {
             firmware,
             writer,
@@ -178,7 +182,8 @@ impl PolledFirmware {
         } = self;
         let core = ack.core;
         let taken = firmware.take(ack);
-        write_one(words, writer, firmware, Some(core), *cores);
+        let used = used_in(taken, core);
+        write_known(words, writer, firmware, used, *cores);
         taken
     }
 

@@ -1,18 +1,18 @@
 //! What a call has changed of the statuses is written, once the call is done.
 
-ghost use Rattle.std.specs.Prelude.{◌≡◌, ◌≢◌, ℕ, ◌+◌, ◌<◌, ◌^◌, false, length};
+ghost use Rattle.std.specs.Prelude.{◌≡◌, ◌≢◌, ℕ, ◌+◌, ◌<◌, ◌^◌, false, length, IfSome, Some};
 ghost use Rattle.psci_board.specs.Board.{cores};
 ghost use Rattle.psci_fw.specs.Seen.{seen};
 ghost use Rattle.psci_fw_spec.specs.Lives.{first_status};
 ghost use Rattle.psci_fw_spec.specs.Statuses.{added};
 ghost use Rattle.psci_status.specs.Lists.{row};
 ghost use Rattle.psci_status.specs.Seats.{MayWrite, WritesBoard, table, table_of_writer, written};
-ghost use Rattle.psci_status.specs.Naming.{asked_by, is_named, slot_beside};
+ghost use Rattle.psci_status.specs.Naming.{asked_by, is_named, slot_beside, used_by};
 ghost use Rattle.psci_status.specs.Writing.{one_more, written_then};
 
 use crate::seats::{StatusWords, Writer};
 use psci_board::Core;
-use psci_fw::{Act, Firmware, Outcome, Reaction, Status};
+use psci_fw::{Act, Firmware, Outcome, Reaction, Status, Taken};
 
 /// The target of a CPU_ON that was accepted.
 pub fn asked_on(outcome: &Outcome) -> Option<Core>
@@ -31,6 +31,16 @@ pub(crate) fn asked_in(reaction: &Reaction) -> Option<Core>
     match (reaction.act, reaction.slot) {
         (Act::Return(_), Some(number)) => Some(Core { number }),
         _ => None,
+    }
+}
+
+/// The core of an acknowledgement that was used. An old one has changed nothing.
+pub(crate) fn used_in(taken: Taken, core: Core) -> Option<Core>
+    ensures { result ≡ used_by taken core }
+{
+    match taken {
+        Taken::Used => Some(core),
+        Taken::Old => None,
     }
 }
 
@@ -97,6 +107,65 @@ pub fn write_one(
     };
     if life_of(firmware) != 0 && core.number < count {
         words.update(writer, core, firmware.core_status(core));
+    }
+}
+
+/// The same where there is a life, and the core is of the board, if one is named. A call that was not
+/// refused has told both, so nothing is asked again.
+#[inline(always)]
+pub(crate) fn write_known(
+    words: &StatusWords,
+    writer: &mut Writer,
+    firmware: &Firmware,
+    changed: Option<Core>,
+    count: u16,
+)
+    requires board { WritesBoard words.now writer.old firmware.now.board count }
+    requires known { IfSome changed (λ core.
+        (core.number < count) × ((seen firmware.now).life ≢ 0)) }
+    requires few { (core : ℕ) → core < count → length (row (written writer.old) core) < 2 ^ 60 }
+    requires others { (core : ℕ) → core < count → is_named changed core ≡ false
+        → (seen firmware.now).life ≢ 0
+        → added ((seen firmware.now).status core) (row (written writer.old) core)
+        ≡ row (written writer.old) core }
+    ensures table { table_of_writer writer.new ≡ table_of_writer writer.old }
+    ensures log { (core : ℕ) → core < count → row (written writer.new) core
+        ≡ written_then (seen firmware.now).life (seen firmware.now) core
+        (row (written writer.old) core) }
+{
+    let _count = count;
+    if let Some(core) = changed {
+        words.update(writer, core, firmware.core_status(core));
+    }
+}
+
+/// Writes the statuses after a core of the board has entered by a start of this life: of all cores
+/// where the start began it, else of the one core.
+#[inline(always)]
+pub(crate) fn write_entered(
+    words: &StatusWords,
+    writer: &mut Writer,
+    firmware: &Firmware,
+    before: u32,
+    core: Core,
+    life: u32,
+    count: u16,
+)
+    requires board { WritesBoard words.now writer.old firmware.now.board count }
+    requires entered { (core.number < count) × ((seen firmware.now).life ≡ life) × (life ≢ 0) }
+    requires few { (core : ℕ) → core < count → length (row (written writer.old) core) < 2 ^ 60 }
+    requires others { (other : ℕ) → other < count → is_named (Some core) other ≡ false
+        → (seen firmware.now).life ≡ before → (seen firmware.now).life ≢ 0
+        → added ((seen firmware.now).status other) (row (written writer.old) other)
+        ≡ row (written writer.old) other }
+    ensures table { table_of_writer writer.new ≡ table_of_writer writer.old }
+    ensures log { (other : ℕ) → other < count → row (written writer.new) other
+        ≡ written_then before (seen firmware.now) other (row (written writer.old) other) }
+{
+    if life == before {
+        write_known(words, writer, firmware, Some(core), count);
+    } else {
+        write_all(words, writer, firmware, count);
     }
 }
 
