@@ -2,7 +2,7 @@
 use Rattle.std.proofs.Common.{◌++◌, append-nil, append_assoc, length-append}
 use Rattle.std.proofs.Math.Seq.{get_or-append_seam}
 use Rattle.std.proofs.lemmas.Option.{slice_get_read}
-use Rattle.psci_fw_state.proofs.Words.{◌+◌, ◌-◌, ◌<◌, ◌∙◌, ◌∷◌, ◌≡◌, ◌≤◌, [], ap, arith}
+use Rattle.psci_fw_state.proofs.Words.{◌+◌, ◌-◌, ◌∙◌, ◌∷◌, ◌≡◌, ◌≤◌, [], ap, arith}
 use Rattle.psci_fw_state.proofs.Words.{BoardValue, get_or, height, length, List, Part, slice_get, Some, state_at, sym}
 use Rattle.psci_fw_state.proofs.Words.{TreeValue, view_of, ℕ, refl}
 use Rattle.std.specs.Prelude.{nat_le, if◌then◌else◌}

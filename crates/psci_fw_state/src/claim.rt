@@ -25,7 +25,7 @@ use crate::state::State;
 use psci_board::{Board, Core, Node, law_paths, law_sizes};
 use psci_coord::Wish;
 use psci_fw_spec::{Opening, SuspendMode};
-use psci_messages::{Kind, Message, Osi, Part, Parts, law_parts, law_slots};
+use psci_messages::{Kind, MOST_PARTS, Message, Osi, Part, Parts, law_parts, law_slots};
 use psci_osi::{off_ask, path_refusal};
 use psci_state::Ask;
 use psci_tree::{Tree, law_confirmed, law_cores, law_granted};
@@ -167,17 +167,22 @@ fn claim_levels(tree: &mut Tree, board: &Board, core: Core, wish: &Wish, parts: 
     law_granted();
     law_confirmed();
     parts.clear();
-    for level in 0..board.height() + 1 {
+    // turns of a constant number, and the height read in each, take the fewest instructions
+    for level in 0..MOST_PARTS as u32 {
+        if level > board.height() {
+            break;
+        }
         let standing = tree.standing(core, level);
         let depth = wish.depth(level, standing.low);
         if depth == 0 {
             break;
         }
-        parts.push_at(level as usize, Part {
+        let part = Part {
             level,
             depth,
             generation: standing.known,
-        });
+        };
+        parts.push_at(level as usize, part);
         let node = tree.on_path(core, level);
         tree.grant(node, depth);
     }

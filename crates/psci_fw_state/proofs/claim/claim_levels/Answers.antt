@@ -12,12 +12,13 @@ use Rattle.psci_fw_state.proofs.Claiming.{climbed_all, generation_kept, part_of_
 use Rattle.psci_fw_state.proofs.Granting.{laid_all, laid_more, may_grant, on_path}
 use Rattle.psci_fw_state.proofs.Granting.{on_board, unconfirmed_all, unconfirmed_more}
 use Rattle.psci_fw_state.proofs.claim.claim_levels.Goals.{After-depth-depth, After-loop-level}
+use Rattle.psci_fw_state.proofs.claim.claim_levels.Goals.{Then-level-height}
 use Rattle.psci_fw_state.proofs.claim.claim_levels.Goals as goal
 
 -- The part of this level ----------------------------------------------------------------------
 
 low : (c : After-depth-depth) → c.loop-level.level ≤ height c.args.board.now
-low c = omega (arith, c.loop-level-test.true, c.height-level-end.ensures.height)
+low c = omega (arith, c.if-level-height.false, c.height.ensures.height)
 
 levels : (c : After-depth-depth) → c.loop-level.tree.levels ≡ c.args.board.now.levels
 levels c = c.loop-level.invariant.levels ∙ c.requires.tree.levels
@@ -184,27 +185,63 @@ returns-then-depth-eq0-clause-confirmed c = λ l p.
     (omega (arith, ap length same, c.loop-level.invariant.climbed.count))
     c.loop-level.invariant.unconfirmed l p)
 
--- every level has its part
-abbrev all_there : After-loop-level → List Part
-all_there c =
+-- the system has its part
+abbrev every_part : Then-level-height → List Part
+every_part c =
     wished_claims c.args.board.now (view_of c.args.tree.now) c.args.core.number c.args.wish.now
 
-every : (c : After-loop-level) → c.loop-level.parts ≡ all_there c
-every c =
+topped : (c : Then-level-height) → c.loop-level.parts ≡ every_part c
+topped c =
     climbed_all c.args.board.now (view_of c.args.tree.now) c.args.core.number _
     c.loop-level.level c.loop-level.parts c.loop-level.invariant.climbed
-    (omega (arith, c.loop-level-test.false, c.height-level-end.ensures.height))
+    (omega (arith, c.if-level-height.true, c.height.ensures.height))
+
+pub returns-then-level-height-clause-parts : goal.returns-then-level-height-clause-parts
+returns-then-level-height-clause-parts c = topped c
+
+pub returns-then-level-height-clause-granted : goal.returns-then-level-height-clause-granted
+returns-then-level-height-clause-granted c = λ l p.
+    rw (topped c) (laid_all c.args.board.now c.args.core.number (every_part c)
+    (granted_at c.args.tree.now) c.loop-level.tree c.loop-level.level
+    (omega (arith, ap length (topped c), c.loop-level.invariant.climbed.count))
+    c.loop-level.invariant.laid l p)
+
+pub returns-then-level-height-clause-confirmed : goal.returns-then-level-height-clause-confirmed
+returns-then-level-height-clause-confirmed c = λ l p.
+    rw (topped c) (unconfirmed_all c.args.board.now c.args.core.number (every_part c)
+    (is_confirmed_at c.args.tree.now) c.loop-level.tree c.loop-level.level
+    (omega (arith, ap length (topped c), c.loop-level.invariant.climbed.count))
+    c.loop-level.invariant.unconfirmed l p)
+
+-- no board is higher
+abbrev all_levels : After-loop-level → List Part
+all_levels c =
+    wished_claims c.args.board.now (view_of c.args.tree.now) c.args.core.number c.args.wish.now
+
+full : (c : After-loop-level) → c.loop-level.parts ≡ all_levels c
+full c =
+    climbed_all c.args.board.now (view_of c.args.tree.now) c.args.core.number _
+    c.loop-level.level c.loop-level.parts c.loop-level.invariant.climbed
+    (omega (
+      arith,
+      c.loop-level-test.false,
+      c.requires.tree.tree.high,
+      ap length c.requires.tree.levels,
+    ))
+
+pub returns-after-loop-level-clause-parts : goal.returns-after-loop-level-clause-parts
+returns-after-loop-level-clause-parts c = full c
 
 pub returns-after-loop-level-clause-granted : goal.returns-after-loop-level-clause-granted
 returns-after-loop-level-clause-granted c = λ l p.
-    rw (every c) (laid_all c.args.board.now c.args.core.number (all_there c)
+    rw (full c) (laid_all c.args.board.now c.args.core.number (all_levels c)
     (granted_at c.args.tree.now) c.loop-level.tree c.loop-level.level
-    (omega (arith, ap length (every c), c.loop-level.invariant.climbed.count))
+    (omega (arith, ap length (full c), c.loop-level.invariant.climbed.count))
     c.loop-level.invariant.laid l p)
 
 pub returns-after-loop-level-clause-confirmed : goal.returns-after-loop-level-clause-confirmed
 returns-after-loop-level-clause-confirmed c = λ l p.
-    rw (every c) (unconfirmed_all c.args.board.now c.args.core.number (all_there c)
+    rw (full c) (unconfirmed_all c.args.board.now c.args.core.number (all_levels c)
     (is_confirmed_at c.args.tree.now) c.loop-level.tree c.loop-level.level
-    (omega (arith, ap length (every c), c.loop-level.invariant.climbed.count))
+    (omega (arith, ap length (full c), c.loop-level.invariant.climbed.count))
     c.loop-level.invariant.unconfirmed l p)
