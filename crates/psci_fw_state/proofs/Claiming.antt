@@ -2,10 +2,10 @@
 use Rattle.std.proofs.Common.{◌++◌, append-nil, append_assoc, length-append}
 use Rattle.std.proofs.Math.Seq.{get_or-append_seam}
 use Rattle.std.proofs.lemmas.Option.{slice_get_read}
-use Rattle.psci_fw_state.proofs.Words.{◌+◌, ◌-◌, ◌∙◌, ◌∷◌, ◌≡◌, ◌≤◌, [], ap, arith}
-use Rattle.psci_fw_state.proofs.Words.{BoardValue, get_or, height, length, List, Part, slice_get, Some, state_at, sym}
-use Rattle.psci_fw_state.proofs.Words.{TreeValue, view_of, ℕ, refl}
 use Rattle.std.specs.Prelude.{nat_le, if◌then◌else◌}
+use Rattle.psci_fw_state.proofs.Words.{◌+◌, ◌-◌, ◌∙◌, ◌∷◌, ◌≡◌, ◌≤◌, [], ap, arith}
+use Rattle.psci_fw_state.proofs.Words.{BoardValue, get_or, height, length, List, Part, refl}
+use Rattle.psci_fw_state.proofs.Words.{slice_get, Some, state_at, sym, TreeValue, view_of, ℕ}
 use Rattle.psci_board.specs.Board.{domain_of}
 use Rattle.psci_coord.specs.Wish.{wanted}
 use Rattle.psci_coord.specs.declared.claim.Wish.{Wish}
@@ -15,7 +15,7 @@ use Rattle.psci_messages.specs.Claim.{climb, claims_of}
 use Rattle.psci_messages.specs.View.{PowerView, generation, least_ask}
 use Rattle.psci_tree.specs.Recount.{asks}
 
--- Where all cores are as they were ----------------------------------------------------------------
+-- Where all cores are as they were --------------------------------------------------------------
 
 -- what is wanted stays
 pub wanted_kept : (b : BoardValue) (t u : TreeValue) (core level : ℕ) (wish : Wish)
@@ -37,7 +37,7 @@ generation_kept b t u core level cores = λ i. generation b (record (view_of t) 
   known = λ c. (cores c i).known;
 }) (domain_of b core level)
 
--- The part of a level ------------------------------------------------------------------------------
+-- The part of a level ---------------------------------------------------------------------------
 
 -- a part that a claim was climbed by is the whole claim's at its level
 pub part_of_level : (b : BoardValue) (v : PowerView) (core : ℕ) (wished : ℕ → ℕ) (level : ℕ)

@@ -1,6 +1,6 @@
 -- Level by level, the domain on the core's path gets a part, and is granted what it claims.
 use Rattle.std.proofs.Common.{◌++◌}
-use Rattle.psci_fw_state.proofs.Words.{◌+◌, ◌<◌, ◌∙◌, ◌∷◌, ◌≡◌, ◌≤◌, [], ap, arith, granted_at}
+use Rattle.psci_fw_state.proofs.Words.{◌+◌, ◌∙◌, ◌∷◌, ◌≡◌, ◌≤◌, [], ap, arith, granted_at}
 use Rattle.psci_fw_state.proofs.Words.{HasNodeIn, height, is_confirmed_at, length, List, Node, Part}
 use Rattle.psci_fw_state.proofs.Words.{refl, slice_get, Some, sym, up, view_of, wished_claims, ℕ}
 use Rattle.psci_tree.specs.Standing.{on_path as path_node}
