@@ -63,7 +63,7 @@ pub fn own_parts(tree: &Tree, board: &Board, core: Core, ask: Ask) -> Parts
 
 /// Up the path of a core, a part for each domain, as long as a depth of at least 1 is wanted. They
 /// are written where they are to stand, which has none before.
-fn climb(tree: &Tree, board: &Board, core: Core, wish: &Wish, parts: &mut Parts)
+pub fn climb(tree: &Tree, board: &Board, core: Core, wish: &Wish, parts: &mut Parts)
     requires board { tree.now.levels ≡ board.now.levels }
     requires core { core.number < cores board.now }
     requires none { parts.old ≡ [] }

@@ -6,5 +6,5 @@
 
 mod claim;
 
-pub use claim::{Wish, claims, own_parts};
+pub use claim::{Wish, claims, climb, own_parts};
 pub use psci_messages::{MOST_PARTS, Part, Parts};

@@ -14,10 +14,10 @@ use Rattle.psci_messages.specs.contracts.slots.Slots as Slots
 abbrev pub LendsFilled : MutBor (Option MessageValue) → MutBor MessageValue → Fml
 LendsFilled s r = Lends Slot.the_row Message.the_row s r (λ m. Some m)
 
--- the slots with this message in that of a core
-abbrev pub with_one : SlotsValue → ℕ → MessageValue → SlotsValue
-with_one s core m = with_message s (OfCore core) (Some m)
+-- the slots once this message was written into that of a core
+abbrev pub with_lent : SlotsValue → ℕ → MessageValue → SlotsValue
+with_lent s core m = with_message s (OfCore core) (Some m)
 
 -- the slot of a core ends with the message that was last written through the borrow
 abbrev pub LendsOfCore : MutBor SlotsValue → ℕ → MutBor MessageValue → Fml
-LendsOfCore s core r = Lends Slots.the_row Message.the_row s r (with_one s.now core)
+LendsOfCore s core r = Lends Slots.the_row Message.the_row s r (with_lent s.now core)
