@@ -1,2 +1,2 @@
-mod Climbing
-mod TreeView
+pub mod Climbing
+pub mod TreeView

@@ -25,7 +25,7 @@ pub enum Wish {
 impl Wish {
     /// The depth that is wanted of a domain of this level, of which the cores below ask this at
     /// least.
-    fn depth(&self, level: u32, low: u8) -> u8
+    pub fn depth(&self, level: u32, low: u8) -> u8
         ensures { (t : TreeValue) (n : Node) → level ≡ n.level → low ≡ low_of t n n.level
             → result ≡ depth_of t n self.now }
     {

@@ -2,6 +2,7 @@ mod Acked
 mod AllCores
 mod Begun
 pub mod Changed
+mod Claiming
 mod Confirming
 mod CountRows
 mod Counting

@@ -1,11 +1,12 @@
 //! What a core that stops claims of its power domains.
 
-ghost use Rattle.std.specs.Prelude.{◌≡◌, ◌<◌, [], ℕ, IfOk, MatchResult, OnErr};
+ghost use Rattle.std.specs.Prelude.{◌≡◌, ◌<◌, ℕ, IfOk, MatchResult, OnErr};
 ghost use Rattle.std.specs.Prelude.{Err, Ok};
 ghost use Rattle.psci_board.specs.Board.{cores};
 ghost use Rattle.psci_messages.specs.Claim.{off_claims, own_claims};
 ghost use Rattle.psci_messages.specs.LastCore.{refusal, shallow};
 ghost use Rattle.psci_messages.specs.declared.kind.Kind.TheVariants as kinds;
+ghost use Rattle.psci_messages.specs.Looked.{view_of};
 ghost use Rattle.psci_messages.specs.Message.{ArePartsOf};
 ghost use Rattle.psci_tree.specs.Recount.{granted_at, is_confirmed_at};
 ghost use Rattle.psci_fw_spec.specs.Changes.{with_claims, with_rest};
@@ -16,15 +17,15 @@ ghost use Rattle.psci_fw_spec.specs.Outcomes.{message_for};
 ghost use Rattle.psci_fw_spec.specs.Paths.{granted_with};
 ghost use Rattle.psci_fw_spec.specs.Views.{view};
 ghost use Rattle.psci_fw_state.specs.Claims.{IsGrantable};
-ghost use Rattle.psci_fw_state.specs.Wishes.{asked_wish, wished_in};
+ghost use Rattle.psci_fw_state.specs.Wishes.{asked_wish, wished_claims, wished_in};
 ghost use Rattle.psci_fw_state.specs.Seen.{IsRunningCore, values_in};
 ghost use Rattle.psci_fw_state.specs.Trees.{IsTreeOf, KeepsCores};
 
 use crate::state::State;
 use psci_board::{Board, Core, Node, law_paths, law_sizes};
-use psci_coord::{Wish, climb};
+use psci_coord::Wish;
 use psci_fw_spec::{Opening, SuspendMode};
-use psci_messages::{Kind, Message, Osi, Part, Parts, law_parts, law_slots};
+use psci_messages::{Kind, MOST_PARTS, Message, Osi, Part, Parts, law_parts, law_slots};
 use psci_osi::{off_ask, path_refusal};
 use psci_state::Ask;
 use psci_tree::{Tree, law_confirmed, law_cores, law_granted};
@@ -122,8 +123,9 @@ impl State {
         }
     }
 
-    /// A core that wants this sends a Down: its domains are granted what it claims. The parts are
-    /// in this frame alone, and are copied from it into their slot.
+    /// A core that wants this sends a Down: its domains are granted what it claims. The message is
+    /// written into its slot, where it stands.
+    #[tactic(auto, unfolding(crate::specs::Seen::values_in))]
     pub fn claim(&mut self, core: Core, wish: &Wish)
         requires { IsGrantable self.old.board core.number
             (wished_in self.old core.number wish.now) (values_in self.old).granted }
@@ -132,54 +134,31 @@ impl State {
             ≡ with_claims self.old.board (message_for v kinds.Down core.number parts) v }
         ensures board { self.new.board ≡ self.old.board }
     {
-        let mut parts = Parts::new();
-        self.wished_parts(core, wish, &mut parts);
-        self.claim_parts(core, &parts);
-    }
-
-    /// The parts of a core that wants this.
-    #[tactic(auto, unfolding(crate::specs::Seen::values_in))]
-    fn wished_parts(&self, core: Core, wish: &Wish, parts: &mut Parts)
-        requires inside { core.number < cores self.now.board }
-        requires none { parts.old ≡ [] }
-        ensures { parts.new ≡ wished_in self.now core.number wish.now }
-    {
-        climb(&self.tree, &self.board, core, wish, parts);
-    }
-
-    /// A Down with these parts was sent: their domains are granted what it claims.
-    #[tactic(auto, unfolding(crate::specs::Seen::values_in))]
-    fn claim_parts(&mut self, core: Core, parts: &Parts)
-        requires { IsGrantable self.old.board core.number parts.now
-            (values_in self.old).granted }
-        ensures after { let v = values_in self.old in values_in self.new
-            ≡ with_claims self.old.board (message_for v kinds.Down core.number parts.now) v }
-        ensures board { self.new.board ≡ self.old.board }
-    {
         law_sizes();
         law_slots();
-        law_granted();
-        law_confirmed();
         let number = self.tree.known_start_inside(core);
-        grant_parts(&mut self.tree, &self.board, core, parts.as_slice());
-        self.slots.put(Message {
-            kind: Kind::Down,
-            core,
-            life: self.life,
-            number,
-            parts: parts.copy(),
-        });
+        let message = self.slots.lend(core);
+        message.kind = Kind::Down;
+        message.core = core;
+        message.life = self.life;
+        message.number = number;
+        claim_levels(&mut self.tree, &self.board, core, wish, &mut message.parts);
     }
 }
 
-/// Grants these parts on the path of a core, from the core up: each at the level of its place.
-fn grant_parts(tree: &mut Tree, board: &Board, core: Core, parts: &[Part])
+/// Up the path of a core that wants this: a part for each domain, as long as a depth of at least 1
+/// is wanted, in place of the parts before, and the domain is granted what the part claims.
+#[inline(always)]
+fn claim_levels(tree: &mut Tree, board: &Board, core: Core, wish: &Wish, parts: &mut Parts)
     requires tree { IsTreeOf board.now tree.old }
-    requires parts { IsGrantable board.now core.number parts.now (granted_at tree.old) }
+    requires parts { IsGrantable board.now core.number
+        (wished_claims board.now (view_of tree.old) core.number wish.now) (granted_at tree.old) }
+    ensures parts { parts.new
+        ≡ wished_claims board.now (view_of tree.old) core.number wish.now }
     ensures granted { (level place : ℕ) → granted_at tree.new level place
-        ≡ granted_with board.now core.number parts.now (granted_at tree.old) level place }
+        ≡ granted_with board.now core.number parts.new (granted_at tree.old) level place }
     ensures confirmed { (level place : ℕ) → is_confirmed_at tree.new level place
-        ≡ claimed_anew board.now core.number parts.now (is_confirmed_at tree.old) level place }
+        ≡ claimed_anew board.now core.number parts.new (is_confirmed_at tree.old) level place }
     ensures kept { KeepsCores tree.old tree.new }
 {
     law_paths();
@@ -187,8 +166,24 @@ fn grant_parts(tree: &mut Tree, board: &Board, core: Core, parts: &[Part])
     law_cores();
     law_granted();
     law_confirmed();
-    for (level, part) in parts.iter().enumerate() {
-        let node = tree.on_path(core, level as u32);
-        tree.grant(node, part.depth);
+    parts.clear();
+    // turns of a constant number, and the height read in each, take the fewest instructions
+    for level in 0..MOST_PARTS as u32 {
+        if level > board.height() {
+            break;
+        }
+        let standing = tree.standing(core, level);
+        let depth = wish.depth(level, standing.low);
+        if depth == 0 {
+            break;
+        }
+        let part = Part {
+            level,
+            depth,
+            generation: standing.known,
+        };
+        parts.push_at(level as usize, part);
+        let node = tree.on_path(core, level);
+        tree.grant(node, depth);
     }
 }

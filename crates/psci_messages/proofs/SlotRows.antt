@@ -8,7 +8,8 @@ use Rattle.psci_messages.specs.declared.kind.Kind.{Kind}
 use Rattle.psci_messages.specs.declared.kind.Kind.TheVariants.{Down, Start, Off, Reset}
 use Rattle.psci_messages.specs.declared.taken.Taken.TheVariants.{Used, Old}
 use Rattle.psci_messages.specs.Message.{MessageValue, AckValue}
-use Rattle.psci_messages.specs.Slots.{taken, answered, message_at, Change, Slot}
+use Rattle.psci_messages.specs.Lending.{with_lent}
+use Rattle.psci_messages.specs.Slots.{taken, answered, message_at, Change, Slot, SlotsValue}
 use Rattle.psci_messages.specs.Slots.Slot.{OfCore, OfSystem}
 use Rattle.psci_messages.specs.Slots.Change.{Put, Clear, ClearAll, Acknowledge}
 use Rattle.psci_messages.specs.Outstanding.{last_message, changes_since, outstanding}
@@ -183,3 +184,12 @@ slots_by_number : Gives at
     ∷ 2 ⇒ Some off
     ∷ 3 ⇒ None ∷ [])
 slots_by_number = refl
+
+-- a message was written into the slot of core 1, over another one or none, and no other slot has it
+abbrev lent : Option MessageValue → Option MessageValue → SlotsValue
+lent first second = record { cores = first ∷ second ∷ []; system = Some off }
+
+written_over : Gives (λ slots. with_lent slots 1 down)
+    (lent None None ⇒ lent None (Some down)
+    ∷ lent (Some start) (Some start) ⇒ lent (Some start) (Some down) ∷ [])
+written_over = refl

@@ -1,6 +1,7 @@
 pub mod Claim
 pub mod LastCore
 pub mod Laws
+pub mod Lending
 pub mod Looked
 pub mod Message
 pub mod OnlyIf

@@ -70,6 +70,24 @@ impl Parts {
         self.count += 1;
     }
 
+    /// Adds a part after the others, whose number is told: so it is not read.
+    pub fn push_at(&mut self, place: usize, part: Part)
+        requires room { place < MOST_PARTS }
+        requires place { place ≡ length self.old }
+        ensures { self.new ≡ self.old ++ part ∷ [] }
+    {
+        self.places[place] = part;
+        self.count = place + 1;
+    }
+
+    /// Has no parts from now on.
+    pub fn clear(&mut self)
+        ensures { self.new ≡ [] }
+    {
+        self.places = [UNUSED; MOST_PARTS];
+        self.count = 0;
+    }
+
     /// The parts in their order.
     pub fn as_slice(&self) -> &[Part]
         ensures parts { result.now ≡ self.now }

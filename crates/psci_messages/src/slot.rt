@@ -24,6 +24,8 @@ impl Model for Slot {
 }
 
 ghost use Rattle.std.specs.Prelude.{◌≡◌, None, Some, option_map};
+ghost use Rattle.std.specs.Borrow.{sem};
+ghost use Rattle.psci_messages.specs.Lending.{LendsFilled};
 
 impl Slot {
     /// An empty slot.
@@ -55,6 +57,15 @@ impl Slot {
     {
         self.full = true;
         self.message = message;
+    }
+
+    /// Has a message from now on, which is lent where it stands, to be written over: at first it is
+    /// any message.
+    pub fn lend(&mut self) -> &mut Message
+        ensures* writes_back { sem 𝓛 (LendsFilled self.entry result) }
+    {
+        self.full = true;
+        &mut self.message
     }
 
     /// Is empty from now on.

@@ -33,6 +33,8 @@ ghost use Rattle.std.specs.Prelude.{slice_index_or, slice_set};
 ghost use Rattle.psci_messages.specs.Slots.{slot_of, message_in, message_at, with_message};
 ghost use Rattle.psci_messages.specs.Slots.{no_messages, after_change, taken, IsOfCores};
 ghost use Rattle.psci_messages.specs.Slots.{answered, is_done};
+ghost use Rattle.std.specs.Borrow.{sem};
+ghost use Rattle.psci_messages.specs.Lending.{LendsOfCore};
 ghost use Rattle.psci_messages.specs.Saved.{AreKept, are_slots, slots_words};
 ghost use Rattle.psci_messages.specs.declared.taken.Taken.TheVariants.{Old};
 ghost use Rattle.psci_messages.specs.Slots.Change.{Put, Clear, ClearAll, Acknowledge};
@@ -59,6 +61,16 @@ impl Slots {
             Kind::Down | Kind::Start => fill_at(&mut self.cores, message),
             Kind::Off | Kind::Reset => self.system.fill(message),
         }
+    }
+
+    /// The slot of a core has a message from now on, which is lent where it stands, to be written
+    /// over: at first it is any message.
+    pub fn lend(&mut self, core: Core) -> &mut Message
+        requires { core.number < length self.old.cores }
+        ensures* writes_back { sem 𝓛 (LendsOfCore self.entry core.number result) }
+    {
+        let slot = &mut self.cores[core.number as usize];
+        slot.lend()
     }
 
     /// Forgets the message of a core that enters.
