@@ -7,7 +7,6 @@ pub mod DepthRows
 pub mod Gone
 pub mod GrantRows
 pub mod Granted
-pub mod Keeping
 pub mod KeptRows
 pub mod Levels
 pub mod Looked
