@@ -110,8 +110,8 @@ pub fn write_one(
     }
 }
 
-/// The same where there is a life, and the core is of the board, if one is named. A call that was not
-/// refused has told both, so nothing is asked again.
+/// The same where there is a life, and the core is of the board, if one is named. A call that was
+/// not refused has told both, so nothing is asked again.
 #[inline(always)]
 pub(crate) fn write_known(
     words: &StatusWords,

@@ -23,7 +23,8 @@ beside : (f : ℕ → Status) (core : ℕ) (s : Status) (c : ℕ) → (c ≡ cor
 beside f core s c n = let at = ne_eqb c core n in rw at refl
 
 -- the turn that the loop is at
-turn_at : (c : In-loop-level) → c.loop-level.level ≤ length c.args.board.now.levels → Turn c.args.board.now.levels
+turn_at : (c : In-loop-level) → c.loop-level.level ≤ length c.args.board.now.levels
+    → Turn c.args.board.now.levels
     (updated (status_at c.args.rows.now) c.args.core.number c.args.before)
     (status_at c.args.rows.now) (map (λ v. v.items) c.loop-level.counts) c.loop-level.level
     (node_at c.loop-level.level (get_or c.places-places.result c.loop-level.level 0))
@@ -66,7 +67,8 @@ recount_domain-requires-clause-may c =
 pub loop-level-preserved : goal.loop-level-preserved
 loop-level-preserved c =
     (turn_at (goal.at.loop-level-preserved c).In-loop-level
-    (omega (arith, c.if-level-height.false, c.height.ensures.height))).more _ c.recount_domain.ensures
+    (omega (arith, c.if-level-height.false, c.height.ensures.height))).more _
+    c.recount_domain.ensures
 
 pub returns-then-level-height : goal.returns-then-level-height
 returns-then-level-height c =
