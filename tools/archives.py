@@ -40,8 +40,10 @@ GENERAL = "-mgeneral-regs-only"
 # Loops go over levels, of which there are four at most, and over the children of one domain. For aarch64 clang makes one
 # turn of such a loop at a time by itself.
 TURNS = ("-mllvm", "-unroll-runtime=0")
-# What changes the firmware on behalf of two calls is compiled in place in both: less would make CPU_ON a quarter dearer.
-IN_PLACE = ("-mllvm", "-inline-threshold=500")
+# What changes the firmware on behalf of two calls is compiled in place in both: less would make CPU_OFF a fifth dearer.
+IN_PLACE = ("-mllvm", "-inline-threshold=650")
+# and for aarch64, where accesses that are aligned take the most room, a little less is
+LESS_IN_PLACE = ("-mllvm", "-inline-threshold=600")
 # A loop begins where it begins: what fills the bytes before it is never executed, and counts.
 PACKED = ("-falign-loops=1",)
 # Where each access is aligned as it is wide, a number is put together of its bytes. That is done where they are read,
@@ -50,9 +52,9 @@ TOGETHER = ("-mllvm", "-disable-machine-sink")
 
 ARCHIVES = {
     "x86_64": (Archive("libpsci_ffi.a", (*TURNS, *PACKED, *IN_PLACE)),),
-    "aarch64": (Archive("libpsci_ffi.a", (GENERAL, *IN_PLACE)),
+    "aarch64": (Archive("libpsci_ffi.a", (GENERAL, *LESS_IN_PLACE)),
                 Archive("libpsci_ffi-strict-align.a",
-                        (GENERAL, "-mstrict-align", *IN_PLACE, *TOGETHER))),
+                        (GENERAL, "-mstrict-align", *LESS_IN_PLACE, *TOGETHER))),
 }
 
 

@@ -17,6 +17,9 @@ TURNS = {"on": "CPU_ON, entry, CPU_OFF, acknowledgement", "suspend": "CPU_SUSPEN
          "core": "AFFINITY_INFO of a core", "system": "AFFINITY_INFO of the system", "version": "PSCI_VERSION",
          "poll": "a poll"}
 SLEEP, MODES = "SYSTEM_SUSPEND, wake-up", "OS-initiated mode and back"
+# a turn beside cores that are suspended, each to the system
+LATER = "the same, every other core suspended"
+STANDBY = "CPU_SUSPEND to standby, wake-up"
 INITIATED, DENIED = (f"CPU_SUSPEND to the system, OS-initiated, {it}" for it in ("wake-up", "denied"))
 
 
@@ -30,11 +33,16 @@ def lists(board):
     deep = f"{height << 24 | 1 << 16 | int('3' * (height + 1), 16):#x}"
     on = f"on {last}-{last}; enter {last}-{last}"
     alone = f"{on}; off 0-0; deliver 0-0; take 0-0"
+    others = f"on 1-{last}; enter 1-{last}; suspend 0-{last - 1} {deep}"
     return {
         TURNS["on"]: [("", f"smc 0 0xc4000003 {word:#x} {ENTRY} 7"), (f"on {last}-{last}", f"enter {last} 1 1 1"),
                       (on, f"smc {last} 0x84000002 0 0 7"), (f"{on}; off {last}-{last}", f"take {last} 0x11 1 4")],
         TURNS["suspend"]: [(alone, f"smc {last} 0xc4000001 {deep} {ENTRY} 7"),
                            (f"{alone}; suspend {last}-{last} {deep}", f"enter {last} 1 2 2")],
+        LATER: [(others, f"smc {last} 0xc4000001 {deep} {ENTRY} 7"),
+                (f"{others}; suspend {last}-{last} {deep}", f"enter {last} 1 2 2")],
+        STANDBY: [(alone, f"smc {last} 0xc4000001 0x1 {ENTRY} 7"),
+                  (f"{alone}; suspend {last}-{last} 0x1", f"enter {last} 1 2 2")],
         SLEEP: [(alone, f"smc {last} 0xc400000e {ENTRY} 7 7"),
                 (f"{alone}; sleep {last}-{last}", f"enter {last} 1 2 2")],
         MODES: [(alone, f"smc {last} 0x8400000f 1 0 7"),
