@@ -43,7 +43,7 @@ TURNS = ("-mllvm", "-unroll-runtime=0")
 # What changes the firmware on behalf of two calls is compiled in place in both: less would make CPU_OFF a fifth dearer.
 IN_PLACE = ("-mllvm", "-inline-threshold=650")
 # and for aarch64, where accesses that are aligned take the most room, a little less is
-LESS_IN_PLACE = ("-mllvm", "-inline-threshold=600")
+LESS_IN_PLACE = ("-mllvm", "-inline-threshold=570")
 # A loop begins where it begins: what fills the bytes before it is never executed, and counts.
 PACKED = ("-falign-loops=1",)
 # Where each access is aligned as it is wide, a number is put together of its bytes. That is done where they are read,

@@ -267,8 +267,8 @@ proving_lib() {
     done) > "$work/out"
     cat > "$work/lines" << 'END'
 -mllvm;-unroll-runtime=0;-falign-loops=1;-mllvm;-inline-threshold=650;-c;a b;$c; x86_64/libpsci_ffi.a
--mgeneral-regs-only;-mstrict-align;-mllvm;-inline-threshold=600;-mllvm;-disable-machine-sink;-c;a b;$c; aarch64/libpsci_ffi-strict-align.a
--mgeneral-regs-only;-mllvm;-inline-threshold=600;-c;a b;$c; aarch64/libpsci_ffi.a
+-mgeneral-regs-only;-mstrict-align;-mllvm;-inline-threshold=570;-mllvm;-disable-machine-sink;-c;a b;$c; aarch64/libpsci_ffi-strict-align.a
+-mgeneral-regs-only;-mllvm;-inline-threshold=570;-c;a b;$c; aarch64/libpsci_ffi.a
 END
     answers "the clang of each archive"
     for words in "--target" "--target arm" "aarch64" "--target aarch64 x"; do
