@@ -1,11 +1,9 @@
--- Worked examples of how domains stand, of what is kept of some cores, and of ways and rows of a
--- tree: two clusters of two cores.
+-- Worked examples of how domains stand, and of ways and rows of a tree: two clusters of two cores.
 use Rattle.std.proofs.Common.{ℕ, ◌≤◌, List, [], ◌∷◌, refl, arith}
 use Rattle.std.specs.Prelude.{length}
-use Rattle.psci_tree.specs.declared.kept.Kept.{Kept}
 use Rattle.psci_tree.specs.declared.way.Way.{Way}
 use Rattle.psci_tree.specs.Changes.{made_pending, start_of_life, started, suspended}
-use Rattle.psci_tree.specs.Kept.{HasRows, IsPart}
+use Rattle.psci_tree.specs.Kept.{HasRows}
 use Rattle.psci_tree.specs.Recount.{TreeValue, known, low}
 use Rattle.psci_tree.specs.Standing.{on_path}
 use Rattle.psci_tree.specs.Way.{AreRows, LeadsTo}
@@ -37,27 +35,6 @@ unfolding known suspended started start_of_life made_pending
 started_below = refl
 
 -- What is kept ----------------------------------------------------------------------------------
-
-abbrev kept : ℕ → ℕ → ℕ → Kept
-kept known active off = record {
-  lows = 0 ∷ 0 ∷ 0 ∷ 0 ∷ [];
-  known = known;
-  cores = 3;
-  active = active;
-  off = off;
-}
-
-part_of_all : IsPart (kept 1 0 1) (kept 4 1 1)
-part_of_all = record { known = omega arith; active = omega arith; off = omega arith }
-
--- more starts, more cores that run, and more that are off
-not_part : ¬ (IsPart (kept 5 0 1) (kept 4 1 1)) × ¬ (IsPart (kept 1 2 1) (kept 4 1 1))
-    × ¬ (IsPart (kept 1 0 2) (kept 4 1 1))
-not_part = (
-  λ is. let no : 5 ≤ 4 = is.known in omega (arith, no),
-  λ is. let no : 2 ≤ 1 = is.active in omega (arith, no),
-  λ is. let no : 2 ≤ 1 = is.off in omega (arith, no),
-)
 
 -- a row is kept for each level above the cores, and has a place for each domain
 no_rows : ¬ (HasRows levels []) × ¬ (HasRows levels ([] ∷ [] ∷ []))
