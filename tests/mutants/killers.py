@@ -271,3 +271,23 @@ def of_archive(top, archive, room):
         add(f"loop {it.name}", [loop, f"{path}.psci"], (it.out, 0))
         add(f"ctl_loop {it.name}", [ctl_loop, f"{path}.psci", f"{path}.out", "saved"], (it.out, 0))
     return killers
+
+
+# ---- crates of tests
+
+def of_tests(binary, crate):
+    """The tests of a crate, each by its name."""
+    listed, _, status = ran([binary.at_work(schema.NONE), "--list"])
+    names = re.findall(rb"^(\S+): test$", listed, re.M)
+    if status or not names:
+        sys.exit(f"mutants: {crate} lists no tests")
+    killers = []
+    for name in (it.decode() for it in names):
+        begun = time.time()
+        said = ran([binary.at_work(schema.NONE), name], patience=100 * PATIENCE)
+        if not said or said[2]:
+            sys.exit(f"mutants: {crate}/{name} fails with no wrong body at work")
+        patience = PATIENCE + 10 * (time.time() - begun)
+        killers.append(Killer(f"test {crate}/{name}", lambda number, name=name, patience=patience:
+                              (ran([binary.at_work(number), name], patience=patience) or (0, 0, -1))[2] != 0))
+    return killers
