@@ -30,12 +30,12 @@ definitions() {
     if cmp -s {,"$fresh/"}docs/understand/DEFINITIONS.md; then pass; else fail "tools/definitions writes another table"; fi
     # a comment that is gone, a definition that is named by hand and is no more, a file that the table lacks
     sed -i '/^-- the low half of a register/d' "$fresh/crates/psci_abi/specs/Calls.antt"
-    sed -i 's/^| psci_board `IsBoard` |/| psci_board `IsBord` |/' "$fresh/docs/understand/DEFINITIONS.md"
+    sed -i 's/psci_audit `IsLegal`/psci_audit `IsLegl`/' "$fresh/docs/understand/DEFINITIONS.md"
     cp "$fresh/crates/psci_abi/specs/"{Codes,Bits}.antt
     "$fresh/tools/definitions" --check > "$work/out" 2> "$work/err"
     echo $? > "$work/got"
     cat > "$work/lines" << 'END'
-docs/understand/DEFINITIONS.md: psci_board has no definition IsBord
+docs/understand/DEFINITIONS.md: psci_audit has no definition IsLegl
 psci_abi: Calls.low_half has no comment
 docs/understand/DEFINITIONS.md has another table than tools/definitions writes
 END
