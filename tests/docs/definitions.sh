@@ -1,5 +1,5 @@
-# Tests of tools/definitions, sourced by ./test: the table of files in docs/understand/DEFINITIONS.md is what it makes of
-# specs/ as they are now, its pages have what stands above each definition, and it tells what has no comment.
+# Tests of tools/definitions, sourced by ./test: the table in docs/understand/DEFINITIONS.md is what it makes of specs/
+# as they are now, its pages have what stands above each definition, and it tells what has no comment.
 
 # specs_copy FOLDER: what tools/definitions reads, in a folder of its own
 specs_copy() {
