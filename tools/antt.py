@@ -1,4 +1,4 @@
-"""Reads what a crate defines and proves (*.antt), with the comments above it, and what its contracts name (*.rt)."""
+"""Reads what a crate defines and proves (*.antt), with the comments above it, and the constants of its code (*.rt)."""
 import glob
 import os
 import re
@@ -7,30 +7,8 @@ import repo
 
 # what may stand before a name that is declared, and what ends the name
 DECLARED = re.compile(r"((?:(?:pub|abbrev|unfoldable|record|data) )*)([^\s:(){}\[\],]+) (?:: |\(|\{)")
-NAME = re.compile(r"[^\s(){}\[\],;.:=λ→×≡]+")
 HEADING = re.compile(r"-- (.*?) ?-{4,}$")
-# the name of a row of a table of examples, in a line above it
-ROW = re.compile(r"^ *-- (\w+): ", re.M)
-USED = re.compile(r"^(?:pub |ghost )?use (\S+?)\.\{([^}]*)\}", re.M)
 CONSTANT = re.compile(r"((?:^ */// ?.*\n)+)^pub const (\w+): [^=]*= ?([^;\n]{1,40};)?", re.M)
-
-
-def imports_of(text):
-    """What the names of other files are in a text: the path of each, with its name there."""
-    found = {}
-    for source, names in USED.findall(text):
-        for word in names.split(","):
-            there, _, here = word.strip().partition(" as ")
-            found[here or there] = f"{source}.{there}"
-    return found
-
-
-def place_of(path):
-    """The crate, file and name of a definition, by the path that it is named by, also where crates between
-    pass it on; nothing of another path."""
-    words = path.split(".")
-    owner = next((it for it in reversed(words[:-2]) if it.startswith("psci_")), None)
-    return (owner, words[-2], words[-1]) if owner and "specs" in words and "declared" not in words else None
 
 
 class Item:
@@ -42,9 +20,6 @@ class Item:
     def is_definition(self):
         return "pub" in self.words and len(self.words) > 1
 
-    def is_theorem(self):
-        return self.words in ([], ["pub"])
-
     def split(self):
         """Its statement and its body; a record is all body."""
         ends = len(self.lines)
@@ -55,12 +30,6 @@ class Item:
         if "record" in self.words or "data" in self.words:
             ends = 0
         return "\n".join(self.lines[:ends]), "\n".join(self.lines[ends:])
-
-    def rows(self):
-        """How many examples a theorem states: the rows of a table, each with a name above it, or with an arrow."""
-        statement = self.split()[0]
-        arrows = statement.count("⇒") if re.search(r"\bGives\b", statement) else 0
-        return max(1, arrows, len(ROW.findall(statement)))
 
     def parts(self):
         """The parts of a record that have a comment, as pairs of names and comments."""
@@ -82,10 +51,8 @@ class File:
         self.path, self.name = path, os.path.basename(path).removesuffix(".antt")
         self.about, self.items, self.headings = "", [], {}
         text = repo.text_of(path)
-        self.imports = imports_of(text)
         for block in re.split(r"\n\n+", text):
             self.read(block.split("\n"))
-        self.named = {item.name: item for item in self.items}
 
     def read(self, lines):
         """A block of lines between empty ones: comments, and what follows them."""
@@ -119,16 +86,6 @@ def constants_of(text):
     """The constants of a text of code: their names, their values if they are short, and their doc comments."""
     return [(name, value.rstrip(";"), " ".join(re.sub(r"^ */// ?", "", comment, flags=re.M).split()))
             for comment, name, value in CONSTANT.findall(text)]
-
-
-def contracts_of(text):
-    """What stands between the names of a text's public functions and their bodies."""
-    found = []
-    for match in re.finditer(r"^( *)pub fn \w+", text, re.M):
-        rest = text[match.end():]
-        ends = re.search(rf"^{match[1]}[{{}}]", rest, re.M)
-        found.append(rest[:ends.start()] if ends else "")
-    return "\n".join(found)
 
 
 def words_of(folder):

@@ -1,5 +1,4 @@
 """A headless Chromium that a test drives, by its DevTools protocol over two pipes."""
-import base64
 import fcntl
 import itertools
 import json
@@ -133,12 +132,6 @@ class Browser:
     def text(self, name):
         """The text of the element of this id."""
         return self.value(f"document.getElementById({json.dumps(name)}).textContent")
-
-    def shot(self, path):
-        """Keeps a picture of the page."""
-        data = self.ask("Page.captureScreenshot", format="png")["data"]
-        with open(path, "wb") as file:
-            file.write(base64.b64decode(data))
 
     def faults(self):
         """What the page threw."""

@@ -1,37 +1,45 @@
-# Tests of the pages of docs/understand/definitions/, sourced by ./test: they are what tools/definitions makes of the
-# comments as they are now, and it tells what has none.
+# Tests of tools/definitions, sourced by ./test: the table in docs/understand/DEFINITIONS.md is what it makes of specs/
+# as they are now, its pages have what stands above each definition, and it tells what has no comment.
+
+# specs_copy FOLDER: what tools/definitions reads, in a folder of its own
+specs_copy() {
+    local name
+    for name in crates/*/{src,specs}; do
+        [ -d "$name" ] || continue
+        mkdir -p "$1/${name%/*}"
+        cp -r "$name" "$1/${name%/*}"
+    done
+    mkdir -p "$1/docs/understand"
+    cp -r tools crates.txt "$1"
+    cp docs/understand/DEFINITIONS.md "$1/docs/understand"
+}
 
 definitions() {
-    local name fresh=$work/definitions
+    local fresh=$work/definitions
     has_python tools/definitions || return 0
     if tools/definitions --check > "$work/out"; then pass; else
         fail "tools/definitions --check"
         cat "$work/out"
     fi
-    for name in crates/*/{src,specs,proofs}; do
-        [ -d "$name" ] || continue
-        mkdir -p "$fresh/${name%/*}"
-        cp -r "$name" "$fresh/${name%/*}"
-    done
-    mkdir -p "$fresh/docs/understand"
-    cp -r tools crates.txt "$fresh"
-    cp -r docs/understand/definitions docs/understand/DEFINITIONS.md docs/understand/EXAMPLES.md "$fresh/docs/understand"
-    # another comment, none, a definition and an example that are named by hand and are no more, a stray page
-    sed -i 's/^-- the SMC64 convention:/-- that convention:/; /^-- the low half of a register/d' \
-        "$fresh/crates/psci_abi/specs/Calls.antt"
-    sed -i 's/^| psci_board `IsBoard` |/| psci_board `IsBord` |/' "$fresh/docs/understand/DEFINITIONS.md"
-    sed -i 's/`down_is_named`/`down_is_nmaed`/' "$fresh/docs/understand/EXAMPLES.md"
-    touch "$fresh/docs/understand/definitions/psci_none.md"
+    specs_copy "$fresh"
+    if "$fresh/tools/definitions" "$work/pages" > "$work/out" 2> "$work/err" &&
+        grep -qF -- '- **`low_half`**: the low half of a register' "$work/pages/psci_abi.md"; then pass; else
+        fail "the page of psci_abi lacks a definition's comment"
+        cat "$work/out" "$work/err"
+    fi
+    if cmp -s {,"$fresh/"}docs/understand/DEFINITIONS.md; then pass; else fail "tools/definitions writes another table"; fi
+    # a comment that is gone, a definition that is named by hand and is no more, a file that the table lacks
+    sed -i '/^-- the low half of a register/d' "$fresh/crates/psci_abi/specs/Calls.antt"
+    sed -i 's/psci_audit `IsLegal`/psci_audit `IsLegl`/' "$fresh/docs/understand/DEFINITIONS.md"
+    cp "$fresh/crates/psci_abi/specs/"{Codes,Bits}.antt
     "$fresh/tools/definitions" --check > "$work/out" 2> "$work/err"
     echo $? > "$work/got"
     cat > "$work/lines" << 'END'
-docs/understand/DEFINITIONS.md: psci_board has no definition IsBord
-docs/understand/EXAMPLES.md: there is no down_is_nmaed
+docs/understand/DEFINITIONS.md: psci_audit has no definition IsLegl
 psci_abi: Calls.low_half has no comment
-docs/understand/definitions/psci_abi.md is another page than tools/definitions writes
-docs/understand/definitions/psci_none.md is another page than tools/definitions writes
-35 pages
+docs/understand/DEFINITIONS.md has another table than tools/definitions writes
 END
+    sed -i '/^[0-9]* crates, /d' "$work/out"
     answers "what tools/definitions tells"
     expect "what tools/definitions tells" 1
 }

@@ -1,6 +1,15 @@
 # Tests of the pictures that the pages show, sourced by ./test: each is what its tool draws, and can be read in both
 # schemes.
 
+# each picture of docs/runs, with the script and the words that it is drawn by
+pictures() {
+    cat << 'END'
+cpu-on examples/start-second-core --cores 0,3
+late-acknowledgement examples/late-acknowledgement
+late-down examples/wake-overtakes-down --from 4 --to 9 --cores 3
+END
+}
+
 # the pictures of docs/runs/, made again; there are no others; all can be read in a dark scheme, too
 drawn() {
     local name script words
@@ -14,9 +23,9 @@ drawn() {
         cp "$work/drawn" "$work/out"
         expect "draw $name" 0
         answers "draw $name"
-    done < docs/runs/pictures.txt
-    basename -s .svg docs/runs/*.svg | sort > "$work/out"
-    cut -d ' ' -f 1 docs/runs/pictures.txt | sort > "$work/lines"
+    done < <(pictures)
+    basename -s .svg docs/runs/*.svg > "$work/out"
+    pictures | cut -d ' ' -f 1 > "$work/lines"
     answers "the pictures of docs/runs"
     if tests/docs/schemes docs/runs/*.svg > "$work/out" 2>&1; then pass; else
         fail tests/docs/schemes
