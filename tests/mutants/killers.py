@@ -163,16 +163,20 @@ class Binary:
             os.remove(f"{self.room}/at-work-{number}")
 
 
+def script(kind, it, binary):
+    """A script with its answers."""
+    wanted = (it.out, it.err, it.status)
+    return Killer(f"{kind} {it.name}", lambda number: ran([binary.at_work(number), "replay"], it.script) != wanted)
+
+
+def of_scripts(top, binary):
+    """The stored scripts."""
+    return [script("script", it, binary) for it in stored(top)]
+
+
 def of_program(top, binary, jobs):
     """The killers of the whole program: first what is quick."""
-    killers = []
-
-    def script(kind, it):
-        wanted = (it.out, it.err, it.status)
-        return Killer(f"{kind} {it.name}", lambda number: ran([binary.at_work(number), "replay"], it.script) != wanted)
-
-    for it in stored(top):
-        killers.append(script("script", it))
+    killers = of_scripts(top, binary)
     for seed, line in re.findall(r"^(\d+) (storm events .*)$", repo.text_of(f"{top}/tests/program/front.sh"), re.M):
         words, wanted = ("storm", "--seed", seed, "--count", "10000"), (f"{line}\n".encode(), b"", 0)
         killers.append(Killer(" ".join(words), lambda number, words=words, wanted=wanted:
@@ -181,9 +185,7 @@ def of_program(top, binary, jobs):
         killers.append(Killer(" ".join(words), lambda number, words=words:
                               not is_audited(ran([binary.at_work(number), *words]))))
     killers += shown(top, binary)
-    for it in random_scripts(top, jobs):
-        killers.append(script("random", it))
-    return killers
+    return killers + [script("random", it, binary) for it in random_scripts(top, jobs)]
 
 
 def is_audited(said):
