@@ -144,8 +144,9 @@ class Binary:
         with open(path, "rb") as file:
             self.bytes = file.read()
         self.mark, self.room = struct.pack("<I", schema.NONE), room
-        if self.bytes.count(self.mark) != 1:
-            sys.exit(f"mutants: {path} keeps its number in {self.bytes.count(self.mark)} places")
+        self.places = self.bytes.count(self.mark)
+        if self.places > 1:
+            sys.exit(f"mutants: {path} keeps its number in {self.places} places")
 
     def at_work(self, number):
         """The path of the program with this number at work."""
