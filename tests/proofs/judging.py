@@ -22,23 +22,6 @@ def listed(names, most=3):
     return ", ".join(names[:most]) + more
 
 
-def crates_of_tests(crate):
-    """The crates whose tests call this one: itself, and the least crate of tests that names it."""
-    crates = repo.Crates()
-    above = [it for it in crates if it.endswith("_tests") and crate in crates.named[it]]
-    return [crate, *sorted(above, key=lambda it: len(crates.below(it)))[:1]]
-
-
-def failing_tests(crate):
-    """Yields the tests that fail, as CRATE::TEST where they are another crate's."""
-    crates, name = os.path.split(crate)
-    for it in crates_of_tests(name):
-        if re.search(r"#\s*\[\s*test\b", "".join(refusers.Texts(f"{crates}/{it}").texts.values())):
-            _, text = said(f"{crates}/{it}", "rt", "try", "--test")
-            for test in re.findall(r"^test (\S+) \.\.\. FAILED", text, re.M):
-                yield test if it == name else f"{it}::{test}"
-
-
 def checked(crate, *words):
     """What `rt check` writes of the crate, and why it judged nothing, where that is so."""
     status, text = said(crate, "rt", "check", "--jobs", "1", *words)
@@ -95,10 +78,10 @@ def refused_by(crate, edit, words):
     if found.broken:
         broken = listed(found.broken, 4)
         return counts, f"NOT REFUSED: script broke, and nothing that counts: {broken}"
-    return counts, "NOT REFUSED: all is proved, and each test passes"
+    return counts, "NOT REFUSED: all is proved"
 
 
-def judged(crate, edit, changed, is_quick):
+def judged(crate, edit, is_quick):
     """Whether the crate, in which the case is made, is refused, and what is to be said of it. The files that
     the case names are asked first, then all files of examples, and then the whole crate."""
     for files in rounds(crate, edit):
@@ -108,8 +91,6 @@ def judged(crate, edit, changed, is_quick):
             break
     if not counts and not is_quick and not what.startswith(("BAD", "NOT TRIED")):
         counts, what = refused_by(crate, edit, [])
-    if not counts and any(path.startswith("src/") for path in changed):
-        counts = [f"test {it}" for it in failing_tests(crate)]
     return bool(counts), f"refused by {listed(counts)}" if counts else what
 
 
@@ -124,7 +105,7 @@ def rounds(crate, edit):
 def examples(crate):
     """The files of worked examples of a crate."""
     return sorted(os.path.basename(it).removesuffix(".antt") for it in
-                  glob.glob(f"{crate}/proofs/*Rows.antt") + glob.glob(f"{crate}/proofs/*Stories.antt"))
+                  glob.glob(f"{crate}/proofs/*Rows.antt"))
 
 
 # a function of the copy whose proof brings in files of worked examples, so that a check asks no more
@@ -136,11 +117,6 @@ def bring(crate, files):
     os.makedirs(f"{crate}/proofs/{EXAMPLES}", exist_ok=True)
     repo.write(crate, {f"proofs/{EXAMPLES}/Answers.antt": "".join(
         f"use Rattle.{os.path.basename(crate)}.proofs.{it}\n" for it in files)})
-
-
-def changes_code(path):
-    """Whether the case changes a body, too, so that tests have to be run."""
-    return bool(re.search(r"^file: src/", repo.text_of(path), re.M))
 
 
 def ready(folder, beside):
@@ -190,7 +166,7 @@ def tried(folder, cases_of, is_quick=False):
     for name, (edit, before, after) in edits.items():
         repo.write(folder, after)
         try:
-            is_refused, what = judged(folder, edit, after, is_quick)
+            is_refused, what = judged(folder, edit, is_quick)
         finally:
             repo.write(folder, before)
         yield name, is_refused, what
