@@ -1,4 +1,4 @@
-"""Wrong firmware and wrong power controllers, each with the script of tests/program/scripts/safe/ that
+"""Wrong firmware and wrong power controllers, each with the script of tests/program/scripts/safe.txt that
 shows it.
 
 Each is a method in place of the right one. With it the run's first wrong line is the one that the

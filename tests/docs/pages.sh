@@ -59,7 +59,14 @@ view_words() {
     has_python "words of views" || return
     ./psci show --changes --from 5 --to 6 --cores 3 < examples/late-acknowledgement.psci > "$work/out" 2> "$work/err"
     echo $? > "$work/got"
-    cp tests/program/shown/late-acknowledgement-changes.txt "$work/lines"
+    cat > "$work/lines" << 'END'
+      c  co  cl  sy
+   n  3  3   1   0   asked -> answered
+   5  g  0!  0!  0   core 3 CPU_OFF -> stops; Down #1: power-down of core and
+                     cluster
+   6     3   3       the power controller gets Down #1 of core 3 ->
+                     acknowledgement 1: 2 of 2 parts applied
+END
     expect "./psci show --changes" 0
     answers "./psci show --changes"
     ./psci draw --page < examples/late-acknowledgement.psci > "$work/out" 2> "$work/err"

@@ -433,10 +433,10 @@ c_header() {
         's/const struct psci_port_orders \*, struct psci_answer/struct psci_answer *, const struct psci_port_orders/'
 }
 
-# the scripts that have no fault
+# the stored scripts that have no fault
 faultless() {
     local file
-    for file in examples/*.psci tests/program/scripts/*/*.psci; do
+    for file in "$stored"/*/*.psci; do
         [ -f "${file%.psci}.status" ] || echo "$file"
     done
 }
@@ -576,7 +576,7 @@ c_rules() {
 # what the other hosts tell
 c_hosts() {
     local file name rest=" exec 0x40000000-0x40100000 boot 0x40000000 starts 9 lives 3"
-    has_cc "the hosts in C" || return
+    has_cc "the hosts in C" && stored_files || return
     for name in ctl_loop boot stop size; do
         build_c "$name" "hosts/$name.c" || return
     done
@@ -640,6 +640,7 @@ c_aarch64() {
     for tool in aarch64-linux-gnu-gcc qemu-aarch64-static; do
         command -v "$tool" > /dev/null || { skip "the C library on aarch64" "$tool"; return; }
     done
+    stored_files || return
     for file in "$plain" "$aligned"; do
         for name in tests/hosts/programs/library tests/hosts/programs/controller "hosts/loop hosts/player"; do
             # shellcheck disable=SC2086

@@ -81,24 +81,16 @@ def ran(command, given=b"", env=None, cwd=None, patience=PATIENCE):
 
 # ---- scripts
 
+def lists(top):
+    """What reads the stored scripts and texts."""
+    sys.path.insert(0, f"{top}/tests/program")
+    import stored as found
+    return found
+
+
 def stored(top):
     """The stored scripts with their answers."""
-    if os.path.exists(f"{top}/tests/program/stored.py"):
-        sys.path.insert(0, f"{top}/tests/program")
-        import stored as lists
-        return list(lists.scripts())
-    found = []
-    for path in sorted(glob.glob(f"{top}/tests/program/scripts/*/*.psci") + glob.glob(f"{top}/examples/*.psci") +
-                       glob.glob(f"{top}/examples/*/*.psci")):
-        def part(ending, path=path):
-            it = path.removesuffix("psci") + ending
-            if not os.path.exists(it):
-                return b""
-            with open(it, "rb") as file:
-                return file.read()
-        name = os.path.relpath(path, top).removeprefix("tests/program/scripts/").removesuffix(".psci")
-        found.append(Stored(name, part("psci"), part("out"), part("err"), int(part("status") or 0)))
-    return found
+    return list(lists(top).scripts())
 
 
 def drawn(top, seed):
@@ -197,13 +189,11 @@ def is_audited(said):
 
 def shown(top, binary):
     """The stored texts of `show`."""
-    killers = []
-    table = re.findall(r"^(\S+\.(?:txt|json)) (\S+)(.*)$", repo.text_of(f"{top}/tests/program/show.sh"), re.M)
-    for name, script, words in table:
-        with open(f"{top}/{script}.psci", "rb") as file, open(f"{top}/tests/program/shown/{name}", "rb") as text:
-            given, wanted = file.read(), (text.read(), b"", 0)
-        killers.append(Killer(f"show {name}", lambda number, words=words.split(), given=given, wanted=wanted:
-                              ran([binary.at_work(number), "show", *words], given) != wanted))
+    killers, known = [], {it.name: it for it in stored(top)}
+    for it in lists(top).read(f"{top}/tests/program/shown.txt")[1]:
+        words, script = it.script.decode().strip().split(" < ")
+        killers.append(Killer(f"show {it.name}", lambda number, words=words.split(), given=known[script].script, wanted=it:
+                              ran([binary.at_work(number), *words], given) != (wanted.out, b"", 0)))
     return killers
 
 

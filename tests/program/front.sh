@@ -3,11 +3,13 @@
 
 # front_of FOLDER WORD..: runs a faulty script by the command ./psci of this folder
 front_of() {
-    local at=$1 lines=tests/program/scripts/lines/event-of-no-form
+    local at=$1 faulty
     shift
-    (cd "$at" && ./psci "$@") < "$lines.psci" > "$work/out" 2> "$work/err"
+    stored_files || return
+    faulty=$stored/lines/event-of-no-form
+    (cd "$at" && ./psci "$@") < "$faulty.psci" > "$work/out" 2> "$work/err"
     echo $? > "$work/got"
-    cp "$lines.out" "$work/lines"
+    cp "$faulty.out" "$work/lines"
 }
 
 # a folder with ./psci and what that reads, and the sources of each crate
@@ -18,11 +20,10 @@ fresh_copy() {
         mkdir -p "$1/${name%/*}"
         cp -r "$name" "$1/${name%/*}"
     done
-    mkdir -p "$1/docs/port" "$1/tests/program"
+    mkdir -p "$1/docs/port"
     cp psci crates.txt HANDLES "$1"
     cp -r tools "$1"
     cp docs/port/FORMATS.md "$1/docs/port"
-    cp -r tests/program/texts "$1/tests/program"
     git init -q "$1"
 }
 
@@ -30,8 +31,11 @@ fresh_copy() {
 # same, and first says what that is worth; what it compiled for that, it does not compile again.
 front() {
     local fault unproved compiled begun first fresh=$work/fresh
-    has_python ./psci || return 0
-    fault=$(cat tests/program/scripts/lines/event-of-no-form.err)$'\n'$(cat tests/program/texts/event-of-no-form.told)
+    stored_files || return
+    fault="$(cat "$stored/lines/event-of-no-form.err")
+psci: line 3, column 1: unknown word 'halt': expected one of call, enter, wake, reset, deliver, take
+    halt 0
+    ^"
     unproved="psci: this run is unproved; ./psci prove proves and builds the program"
     compiled="psci: compiling it takes about a minute; the program is kept for the next run"
     front_of . replay

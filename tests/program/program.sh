@@ -20,6 +20,23 @@ answers() {
     fi
 }
 
+# stored_files: each stored script as files in $stored, by its name in tests/program/stored.py: NAME.psci, NAME.out, and
+# NAME.err and NAME.status where there is a fault
+stored_files() {
+    stored=$work/stored
+    [ ! -d "$stored" ] || return 0
+    has_python "what stored scripts say" || return
+    tests/program/stored.py unpack "$stored" 2> "$work/err" || { fail "$(cat "$work/err")"; return 1; }
+    ln -s "$top/examples" "$stored/examples"
+}
+
+# stored_texts NAME: the texts of tests/program/NAME.txt as files in $work/NAME, which are called as those of scripts, but
+# for the words, NAME.words
+stored_texts() {
+    has_python "the texts of $1" || return
+    tests/program/stored.py unpack "$work/$1" "tests/program/$1.txt" 2> "$work/err" || { fail "$(cat "$work/err")"; return 1; }
+}
+
 # headers: what the C library's headers are called, each of include/ but the one that goes with hosts/beside/beside.c
 headers() { (cd "$top/include" && printf '%s\n' *.h | grep -vx psci_beside.h); }
 
@@ -188,10 +205,11 @@ version() {
 
 # the program that only replays answers each example as the whole one does, whatever its words
 replay_program() {
-    local file whole=$program
+    local name whole=$program
+    stored_files || return
     program=$top/crates/psci_replay/out/psci_replay
     [ -x "$program" ] || { skip "the program that only replays" "$program"; program=$whole; return; }
-    for file in examples/*.psci tests/program/scripts/lines/*.psci; do script "${file%.psci}"; done
+    for name in $(cd "$stored" && printf '%s\n' {examples,lines}/*.psci); do script "${name%.psci}"; done
     one_entry
     run < "$work/script"
     expect "the program that only replays, without a word" 0

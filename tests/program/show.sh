@@ -4,41 +4,20 @@
 # show WORD..: shows the script on standard input
 show() { run show "$@"; }
 
-# the stored texts of tests/program/shown/: what is written of a script, in words, in color and as JSON; and
+# the stored texts of tests/program/shown.txt: what is written of a script, in words, in color and as JSON; and
 # each text that psci_show has stands in one of them
 shown() {
-    local name script words
-    while read -r name script words; do
+    local name words
+    stored_files && stored_texts shown || return
+    for name in "$work"/shown/*.words; do
+        name=${name%.words}
+        words=$(cat "$name.words")
         # shellcheck disable=SC2086
-        show $words < "$script.psci"
-        cp "tests/program/shown/$name" "$work/lines"
-        expect "show $words < $script" 0
-        answers "show $words < $script"
-    done << 'END'
-late-acknowledgement.txt examples/late-acknowledgement
-half-of-the-line.txt examples/late-acknowledgement --width 72
-more-than-half.txt examples/late-acknowledgement --width 71
-wake-overtakes-down.txt examples/wake-overtakes-down
-message-delivered-twice.txt examples/message-delivered-twice
-os-initiated-refusals.txt examples/os-initiated-refusals
-linux-boot.txt examples/linux/boot
-three-levels-wide.txt examples/three-levels --width 120 --legend
-three-levels-narrow.txt examples/three-levels --width 60
-cpu-on-refusals.txt tests/program/scripts/calls/cpu-on-refusals
-hw-standby.txt tests/program/scripts/calls/hw-standby
-hw-start-of-life.txt tests/program/scripts/calls/hw-start-of-life
-start-delivered-three-times.txt tests/program/scripts/calls/start-delivered-three-times
-unknown-function.txt tests/program/scripts/calls/unknown-function-stopped-core-no-core
-nothing-after-system-off.txt tests/program/scripts/system/nothing-after-system-off --width 40
-system-reset2.txt tests/program/scripts/system/system-reset2
-two-starts-a-life.txt tests/program/scripts/lives/two-starts-a-life
-retention-colored.txt tests/program/scripts/suspend/retention-woken-and-reset --color always
-one-level-colored.txt tests/program/scripts/suspend/one-level-sleeps-and-wakes --color always
-retention.json tests/program/scripts/suspend/retention-woken-and-reset --json
-extended-in-the-next-life.json tests/program/scripts/suspend/extended-in-the-next-life --json
-message-delivered-twice.json examples/message-delivered-twice --json
-suspend-mode-pending-core.json tests/program/scripts/os-initiated/suspend-mode-pending-core --json
-END
+        run ${words% < *} < "$stored/${words#* < }.psci"
+        cp "$name.out" "$work/lines"
+        expect "${name##*/}: $words" 0
+        answers "${name##*/}: $words"
+    done
     if has_python tests/program/words-shown; then
         if tests/program/words-shown > "$work/out"; then pass; else
             fail "tests/program/words-shown"
@@ -55,24 +34,24 @@ shown_colors() {
     local when
     for when in auto never; do
         show --color $when < examples/late-acknowledgement.psci
-        cp tests/program/shown/late-acknowledgement.txt "$work/lines"
+        cp "$work/shown/late-acknowledgement.out" "$work/lines"
         answers "show --color $when"
     done
     show --color always < examples/late-acknowledgement.psci
     sed 's/\x1b\[[0-9]*m//g' "$work/out" > "$work/plain"
     if ! cmp -s "$work/plain" "$work/out"; then pass; else fail "show --color always without a color"; fi
     cp "$work/plain" "$work/out"
-    cp tests/program/shown/late-acknowledgement.txt "$work/lines"
+    cp "$work/shown/late-acknowledgement.out" "$work/lines"
     answers "show --color always"
 }
 
 # the scripts of which the colored texts are stored: together they have every state
-colored="tests/program/scripts/suspend/retention-woken-and-reset tests/program/scripts/suspend/one-level-sleeps-and-wakes"
+colored="suspend/retention-woken-and-reset suspend/one-level-sleeps-and-wakes"
 
 # colors WORD..: which letter has which color in the colored scripts, by a command that shows one
 colors() {
     local script
-    for script in $colored; do "$@" < "$script.psci"; done | grep -o $'\x1b\[[0-9]*m[^\x1b]' | cut -c 3- | grep -v '^0m' | sort -u
+    for script in $colored; do "$@" < "$stored/$script.psci"; done | grep -o $'\x1b\[[0-9]*m[^\x1b]' | cut -c 3- | grep -v '^0m' | sort -u
 }
 
 show_in_color() { show --color always; cat "$work/out"; }
