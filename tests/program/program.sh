@@ -30,11 +30,12 @@ stored_files() {
     ln -s "$top/examples" "$stored/examples"
 }
 
-# stored_texts NAME: the texts of tests/program/NAME.txt as files in $work/NAME, which are called as those of scripts, but
+# stored_texts LIST: the texts of tests/program/LIST.txt as files in $work/LIST, which are called as those of scripts, but
 # for the words, NAME.words
 stored_texts() {
     has_python "the texts of $1" || return
-    tests/program/stored.py unpack "$work/$1" "tests/program/$1.txt" 2> "$work/err" || { fail "$(cat "$work/err")"; return 1; }
+    tests/program/stored.py unpack "$work/$1" "tests/program/$1.txt" 2> "$work/err" ||
+        { fail "$(cat "$work/err")"; return 1; }
 }
 
 # headers: what the C library's headers are called, each of include/ but the one that goes with hosts/beside/beside.c

@@ -5,8 +5,8 @@
     tests/program/stored.py unpack FOLDER [LIST..] writes each as files FOLDER/NAME.psci and .out, with .err and .status
                                                    where there are errors and the status is not 0
     tests/program/stored.py pack FOLDER [LIST..]   writes the lists anew with what such files say now
-    tests/program/stored.py add FILE.psci..        puts scripts TOPIC/NAME.psci, with what stands beside them, at the end
-                                                   of the list of their topic, and removes the files
+    tests/program/stored.py add FILE.psci..        puts scripts TOPIC/NAME.psci, with what stands beside them, behind the
+                                                   last of their topic's list, and removes the files
 
 LIST is a list of scripts or texts, and all those of scripts if left out. In a list of texts the first part is no
 script but the words of a command line, and its file is NAME.words. A list begins with a head, whose lines have a '#';
@@ -22,9 +22,9 @@ from collections import namedtuple
 
 TOP = os.path.dirname(os.path.dirname(os.path.dirname(os.path.abspath(__file__))))
 FOLDER = f"{TOP}/tests/program/scripts"
-FORM = r"""# Behind `== NAME` stand the lines of a script; behind `-- out` its answers, behind `-- err` the words of its fault, in
-# `-- status` its exit status, where there are some and it is not 0. The empty line before a `==` is of no script. In a
-# line `\\` is a backslash and `\xHH` a byte: what is no printable ASCII, a space at the end, the first byte of what
+FORM = r"""# Behind `== NAME` stand the lines of a script, behind `-- out` its answers, behind `-- err` the words of its fault,
+# in `-- status` its exit status, where there are some and it is not 0. The empty line before a `==` is of no script.
+# In a line `\\` is a backslash and `\xHH` a byte: what is no printable ASCII, a space at the end, the first byte of what
 # would be a mark. A `\` at the end of the last line says that no line feed follows.
 """
 
@@ -64,11 +64,10 @@ def entry(it):
 def stored_in(text):
     """A script by what stands behind its '== '."""
     name, _, text = text.partition("\n")
-    script, *parts = re.split(r"^-- (\w*)([^\n]*)\n", text, flags=re.M)
-    words = {word: (rest, lines) for word, rest, lines in zip(*[iter(parts)] * 3)}
-    status = words.get("status", (" 0", ""))[0][1:]
-    return Stored(name, bytes_of(script), *(bytes_of(words.get(it, ("", ""))[1]) for it in ("out", "err")),
-                  int(status) if status.isdecimal() else 0)
+    script, *parts = re.split(r"^-- (out|err|status \d+)\n", text, flags=re.M)
+    said = dict(zip(parts[::2], parts[1::2]))
+    status = next((int(it.removeprefix("status ")) for it in said if it.startswith("status ")), 0)
+    return Stored(name, *map(bytes_of, (script, said.get("out", ""), said.get("err", ""))), status)
 
 
 def text_of(head, found):
@@ -80,15 +79,14 @@ def read(path):
     """The head of a list, and its scripts."""
     with open(path, encoding="latin-1", newline="\n") as file:
         text = file.read()
-    head, *blocks = re.split(r"^== ", text, flags=re.M)
-    # the empty line before a mark is of no script
-    ended = [it.removesuffix("\n") for it in [head, *blocks][:-1]] + [head, *blocks][-1:]
-    head, found = ended[0], [stored_in(it) for it in ended[1:]]
+    # with its line feed the empty line before a mark is of no script
+    head, *blocks = text.split("\n== ")
+    found = [stored_in(it) for it in blocks]
     wanted = text_of(head, found)
     if text != wanted:
-        lines = zip([*text.split("\n"), None], [*wanted.split("\n"), None])
-        at = next(number for number, (one, other) in enumerate(lines, 1) if one != other)
-        raise Wrong(f"{os.path.relpath(path, TOP)}, line {at}: not as it would be written: {text.splitlines()[at - 1:at]}")
+        lines = enumerate(zip(text.split("\n"), wanted.split("\n")), 1)
+        at = next((f"line {number}" for number, (one, other) in lines if one != other), "its end")
+        raise Wrong(f"{os.path.relpath(path, TOP)}, {at}: it would be written otherwise")
     return head, found
 
 
@@ -123,15 +121,16 @@ def script(name):
 
 def append(it):
     """Puts a script at the end of the list that has what is called most alike in its topic, or begins one."""
-    topic, best = f"{it.name.split('/')[0]}/", (0, f"{FOLDER}/{it.name.split('/')[0]}.txt")
+    topic = it.name.split("/")[0]
+    alike = {}
     for path in lists():
-        names = [other.name for other in read(path)[1]]
-        if it.name in names:
-            raise Wrong(f"{it.name} is stored already, in {os.path.relpath(path, TOP)}")
-        alike = [len(os.path.commonprefix([it.name, name])) for name in names if name.startswith(topic)]
-        best = max(best, (max(alike, default=0), path))
-    path = best[1]
-    head, found = read(path) if os.path.exists(path) else (f"# Stored scripts: {topic[:-1]}.\n{FORM}", [])
+        for other in read(path)[1]:
+            if other.name == it.name:
+                raise Wrong(f"{it.name} is stored already, in {os.path.relpath(path, TOP)}")
+            if other.name.startswith(f"{topic}/"):
+                alike[len(os.path.commonprefix([it.name, other.name]))] = path
+    path = alike[max(alike)] if alike else f"{FOLDER}/{topic}.txt"
+    head, found = read(path) if alike else (f"# Stored scripts: {topic}.\n{FORM}", [])
     write(path, head, [*found, it])
     return path
 
@@ -149,8 +148,8 @@ def bytes_at(path):
 
 def stored_at(base, name, suffix="psci"):
     """A script by its files."""
-    status = bytes_at(f"{base}.status").strip()
-    return Stored(name, bytes_at(f"{base}.{suffix}"), bytes_at(f"{base}.out"), bytes_at(f"{base}.err"), int(status or 0))
+    script, out, err, status = (bytes_at(f"{base}.{it}") for it in (suffix, "out", "err", "status"))
+    return Stored(name, script, out, err, int(status or 0))
 
 
 def examples(suffix):
@@ -188,10 +187,9 @@ def unpack(folder, paths):
 
 def pack(folder, paths):
     for path in paths:
-        head, found = read(path)
-        suffix = suffix_of(path)
-        new = [stored_at(f"{folder}/{it.name}", it.name, suffix) if os.path.exists(f"{folder}/{it.name}.{suffix}") else it
-               for it in found]
+        (head, found), suffix = read(path), suffix_of(path)
+        there = {it.name for it in found if os.path.exists(f"{folder}/{it.name}.{suffix}")}
+        new = [stored_at(f"{folder}/{it.name}", it.name, suffix) if it.name in there else it for it in found]
         if new != found:
             write(path, head, new)
             print(f"{os.path.relpath(path, TOP)}: {', '.join(it.name for it, old in zip(new, found) if it != old)}")

@@ -10,7 +10,8 @@ texts() {
         [ ! -f "$name.status" ] || wanted=$(cat "$name.status")
         mapfile -t words < "$file"
         run "${words[@]}" < /dev/null
-        if [ "$(cat "$work/got")" = "$wanted" ] && same "$name.out" "$work/out" && same "$name.err" "$work/err"; then pass; else
+        if [ "$(cat "$work/got")" = "$wanted" ] && same "$name.out" "$work/out" &&
+            same "$name.err" "$work/err"; then pass; else
             fail "the text ${name##*/} (status $(cat "$work/got"), wanted $wanted)"
             cat "$name".[eo]* | diff - <(cat "$work/out" "$work/err") | head -n 5
         fi
