@@ -81,6 +81,8 @@ def read(path):
         text = file.read()
     # with its line feed the empty line before a mark is of no script
     head, *blocks = text.split("\n== ")
+    if re.search(r"^[^#]", head, re.M):
+        raise Wrong(f"{os.path.relpath(path, TOP)}: its head has a line without a '#'")
     found = [stored_in(it) for it in blocks]
     wanted = text_of(head, found)
     if text != wanted:
