@@ -103,7 +103,9 @@ def lists():
 
 
 def listed():
-    """Each script of the lists, by its name."""
+    """Each script of the lists, by its name; none may be left beside them as a file."""
+    for path in glob.glob(f"{FOLDER}/*/*.psci"):
+        raise Wrong(f"{os.path.relpath(path, TOP)} is in no list: tests/program/stored.py add puts it there")
     found = {}
     for path in lists():
         for it in read(path)[1]:
@@ -176,7 +178,9 @@ def suffix_of(path):
 
 
 def unpack(folder, paths):
-    for path in paths:
+    if not paths:
+        listed()
+    for path in paths or lists():
         for it in read(path)[1]:
             base = f"{folder}/{it.name}"
             os.makedirs(os.path.dirname(base), exist_ok=True)
@@ -188,7 +192,7 @@ def unpack(folder, paths):
 
 
 def pack(folder, paths):
-    for path in paths:
+    for path in paths or lists():
         (head, found), suffix = read(path), suffix_of(path)
         there = {it.name for it in found if os.path.exists(f"{folder}/{it.name}.{suffix}")}
         new = [stored_at(f"{folder}/{it.name}", it.name, suffix) if it.name in there else it for it in found]
@@ -202,6 +206,8 @@ def add(paths):
         base = os.path.abspath(path).removesuffix(".psci")
         if not os.path.exists(f"{base}.psci"):
             raise Wrong(f"{path}: there is no such script")
+        if base.startswith(f"{TOP}/examples/"):
+            raise Wrong(f"{path}: what is in examples/ stays a file")
         it = stored_at(base, "/".join(base.split("/")[-2:]))
         print(f"{it.name}: {os.path.relpath(append(it), TOP)}")
         for suffix in ("psci", "out", "err", "status"):
@@ -215,9 +221,9 @@ def main(words):
     if words[:1] == ["print"] and len(words) == 2:
         sys.stdout.buffer.write(script(words[1]).script)
     elif words[:1] == ["unpack"] and words[1:]:
-        unpack(words[1], words[2:] or lists())
+        unpack(words[1], words[2:])
     elif words[:1] == ["pack"] and words[1:]:
-        pack(words[1], words[2:] or lists())
+        pack(words[1], words[2:])
     elif words[:1] == ["add"] and words[1:]:
         add(words[1:])
     else:
