@@ -5,8 +5,8 @@
     tests/program/stored.py unpack FOLDER [LIST..] writes each as files FOLDER/NAME.psci and .out, with .err and .status
                                                    where there are errors and the status is not 0
     tests/program/stored.py pack FOLDER [LIST..]   writes the lists anew with what such files say now
-    tests/program/stored.py add FILE.psci..        puts scripts TOPIC/NAME.psci, with what stands beside them, behind the
-                                                   last of their topic's list, and removes the files
+    tests/program/stored.py add FILE.psci..        puts scripts TOPIC/NAME.psci, with the files beside them, behind the
+                                                   last one of their topic's list, and removes the files
 
 LIST is a list of scripts or texts, and all those of scripts if left out. In a list of texts the first part is no
 script but the words of a command line, and its file is NAME.words. A list begins with a head, whose lines have a '#';
@@ -22,10 +22,10 @@ from collections import namedtuple
 
 TOP = os.path.dirname(os.path.dirname(os.path.dirname(os.path.abspath(__file__))))
 FOLDER = f"{TOP}/tests/program/scripts"
-FORM = r"""# Behind `== NAME` stand the lines of a script, behind `-- out` its answers, behind `-- err` the words of its fault,
-# in `-- status` its exit status, where there are some and it is not 0. The empty line before a `==` is of no script.
-# In a line `\\` is a backslash and `\xHH` a byte: what is no printable ASCII, a space at the end, the first byte of what
-# would be a mark. A `\` at the end of the last line says that no line feed follows.
+FORM = r"""# Behind `== NAME` stand the lines of a script, behind `-- out` its answers, behind `-- err` the words of its
+# fault, in `-- status` its exit status, where there are some and it is not 0. The empty line before a `==` is of no
+# script. In a line `\\` is a backslash and `\xHH` a byte: what is no printable ASCII, a space at the end, the first
+# byte of what would be a mark. A `\` at the end of the last line says that no line feed follows.
 """
 
 # the name of a script, its bytes, those of its answers and errors, and its status; and as much of a command line
