@@ -125,7 +125,7 @@ sentences() { by_python docs/sentences; }
 # what the port's assembly does to processors, and the faults that are told there
 el3_silicon() {
     local tool name check _ text
-    for tool in aarch64-linux-gnu-gcc qemu-aarch64-static patch; do
+    for tool in aarch64-linux-gnu-gcc qemu-aarch64-static python3; do
         command -v "$tool" > /dev/null || { skip "hosts/el3 on processors that are played" "$tool"; return; }
     done
     if timeout "$patience" hosts/el3/checks/silicon > "$work/out" 2>&1; then pass; else
@@ -140,20 +140,24 @@ el3_silicon() {
             fail "$name is seen by silicon, which does not say '$text'"
             head -n 5 "$work/out"
         fi
-    done < tests/hosts/port-faults.txt
+    done < <(hosts/plant --told hosts/el3/faults.edits)
+}
+
+# planted HOST NAME FOLDER: makes the folder one with the host's sources, in which this fault of its list is planted
+planted() {
+    rm -rf "$3"
+    cp -r "hosts/$1" "$3"
+    hosts/plant "hosts/$1/faults.edits" "$2" "$3" && ! diff -rq "hosts/$1" "$3" > "$work/out"
 }
 
 # each fault still fits the port's sources, and the port still compiles with it
 el3_faults() {
-    local file copy=$work/el3-copy
-    command -v patch > /dev/null || { skip "faults of hosts/el3" patch; return; }
+    local name copy=$work/el3-copy
+    has_python "faults of hosts/el3" || return
     command -v aarch64-linux-gnu-gcc > /dev/null ||
         skip "compiling faults of hosts/el3" aarch64-linux-gnu-gcc
-    for file in hosts/el3/faults/*.patch; do
-        rm -rf "$copy"
-        cp -r hosts/el3 "$copy"
-        if patch -s -F0 -d "$copy" -p1 < "$file" && ! diff -rq hosts/el3 "$copy" > "$work/out" &&
-            compiles "$copy"; then pass; else fail "$file"; fi
+    for name in $(sed -n 's/^== //p' hosts/el3/faults.edits); do
+        if planted el3 "$name" "$copy" && compiles "$copy"; then pass; else fail "hosts/el3/faults.edits: $name"; fi
     done
 }
 
