@@ -260,13 +260,15 @@ el3_live_faults() {
     live_slow
 }
 
-# with accesses that have to be aligned, frames that are lost, three lives, a reset that nobody has ordered, and a
-# kernel that begins another
+# with accesses that have to be aligned, frames that are lost, wake-ups without cause, three lives, a reset that nobody
+# has ordered, and a kernel that begins another
 el3_live_more() {
     local took
     can_boot || return
     live strict --strict each idle
     live lost-frames --lose 5 each suspend-5
+    live roused --lose 5 --rouse 3 each boot-core suspend-5
+    if grep -q ", parks [1-9]" "$work/el3-roused/el3.log"; then pass; else fail "hosts/el3/run --rouse 3: no core parks"; fi
     live_unsent
     live three-lives --board "(2 2) $space lives 3" each reboot
     live cut --reset-at "guest: core 2 off" each idle
