@@ -24,14 +24,13 @@ el3_records() {
             print names[at], many[at]
         }
     }' > "$work/rows"
-    for file in hosts/el3/runs/*.record.xz; do
-        has_xz "$file" || continue
-        xz -dc "$file" > "$work/run.record"
-        name=$(sed -n 's/^# machine //p' "$work/run.record")
+    hosts/records take hosts/el3/runs.tar.xz "$work/runs"
+    for file in "$work"/runs/*.record; do
+        name=$(sed -n 's/^# machine //p' "$file")
         # of 64 cores the second model takes minutes
-        if [[ $file = *-sixty-four.* ]]; then compared 0 "are answered as by the proved program" "$work/run.record" --quick
-        else compared 0 "safe after each of them" "$work/run.record" ${name:+--machine "hosts/el3/machines/$name"}; fi
-        name=$(basename "$file" .record.xz) many=$(sed -n 's/.*: \([0-9]*\) events are answered.*/\1/p' "$work/out")
+        if [[ $file = *-sixty-four.* ]]; then compared 0 "are answered as by the proved program" "$file" --quick
+        else compared 0 "safe after each of them" "$file" ${name:+--machine "hosts/el3/machines/$name"}; fi
+        name=$(basename "$file" .record) many=$(sed -n 's/.*: \([0-9]*\) events are answered.*/\1/p' "$work/out")
         if grep -qx "$name $many" "$work/rows"; then pass; else fail "hosts/el3/README.md: $name has $many events"; fi
     done
 }
@@ -40,8 +39,9 @@ el3_records() {
 # boot core is another, two cores have each other's MPIDR, a core has one that is not there, two words are exchanged
 other_machines() {
     local text change machine=hosts/el3/machines/affinity-1.machine
-    has_python "other machines for a record" && has_xz hosts/el3/runs/affinity-1.record.xz || return
-    xz -dc hosts/el3/runs/affinity-1.record.xz | grep -v ^mpidr > "$work/run.record"
+    has_python "other machines for a record" || return
+    hosts/records take hosts/el3/runs.tar.xz "$work" affinity-1.record
+    grep -v ^mpidr "$work/affinity-1.record" > "$work/run.record"
     compared 0 "are answered as by the proved program" "$work/run.record" --quick --machine $machine
     while IFS='|' read -r text change; do
         sed "$change" $machine > "$work/other.machine"
@@ -53,9 +53,8 @@ the proved program: return 0 #0 start |s/^core 0x0$/core 0x1000/; s/^core 0x100$
 no core has the MPIDR 0x200|s/^core 0x200/core 0x201/
 the proved program: stop |s/^word 0x00010022/word 0x000100ff/; s/^word 0x00010011/word 0x00010022/; s/^word 0x000100ff/word 0x00010011/
 END
-    xz -dc hosts/el3/runs/affinity-1.record.xz > "$work/run.record"
     sed 's/^core 0x200/core 0x201/' $machine > "$work/other.machine"
-    compared 3 "line 2: these are not the MPIDRs of the machine" "$work/run.record" --machine "$work/other.machine"
+    compared 3 "line 2: these are not the MPIDRs of the machine" "$work/affinity-1.record" --machine "$work/other.machine"
 }
 
 # the lists of each machine that is stored are those of its text, and of a board's text

@@ -16,12 +16,13 @@ stored_runs() {
 # bare: answer lines without their messages and numbers, as a trace can be compared with
 bare() { sed 's/ #.*//; s/started .*/started/'; }
 
-# each trace in tests/hosts/traces/: its script, what was recorded, and the same answers by the program
+# each trace in tests/hosts/traces.txt: its script, what was recorded, and the same answers by the program
 traces() {
     local file name
     local -a words
     has_python "tools/trace-to-script" || return
-    for file in tests/hosts/traces/*.txt; do
+    hosts/records take tests/hosts/traces.txt "$work/traces"
+    for file in "$work"/traces/*.txt; do
         name=${file%.txt} words=()
         [ ! -f "$name.words" ] || mapfile -t words < "$name.words"
         tools/trace-to-script "${words[@]}" < "$file" > "$work/script"

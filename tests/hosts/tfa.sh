@@ -5,11 +5,8 @@
 tfa_records() {
     local file
     has_python "records of hosts/tfa" || return
-    for file in hosts/tfa/runs/*.record.xz; do
-        has_xz "$file" || continue
-        xz -dc "$file" > "$work/run.record"
-        compared 0 "safe after each of them" "$work/run.record"
-    done
+    hosts/records take hosts/tfa/runs.tar.xz "$work/runs"
+    for file in "$work"/runs/*.record; do compared 0 "safe after each of them" "$file"; done
 }
 
 # each fault still fits the adaptor's sources
