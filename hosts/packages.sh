@@ -1,4 +1,4 @@
-# Debian packages for guests, sourced by qemu/run, el3/run and tfa/run, which have `say`, `stop` and `cache`.
+# Debian packages for guests, sourced by el3/run, tfa/run and kvm/run, which have `say`, `stop` and `cache`.
 # It installs nothing and needs no rights: apt gets lists of its own, in the folder $cache/apt.
 mirror=http://deb.debian.org/debian
 release=bookworm kernels='image-6.1.0-[0-9]+' xen=4.17
@@ -106,7 +106,7 @@ for_kexec() {
         further+=("lib/$library=$(find "$cache/kexec" -name "$library" -print -quit)")
     done
     hosts=$(dirname "${BASH_SOURCE[0]}")
-    "$hosts/qemu/initramfs" "$cache/packages/bin/busybox" "$hosts/qemu/init" "${further[@]}" > "$2.both"
+    "$hosts/linux/initramfs" "$cache/packages/bin/busybox" "$hosts/linux/init" "${further[@]}" > "$2.both"
     mv "$2.both" "$2"
 }
 

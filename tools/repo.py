@@ -128,7 +128,7 @@ def parse_edit(text):
         file: PATH     a file, in the crate or in the repository, which the changes after it are of
         old: TEXT      what stands in it once
         new: TEXT      what stands there then
-        more: TEXT     a further line of that
+        more: TEXT     a further line of the text before it
 
     Lines of other words, as 'run: ..', are kept by their words, and lines without one are comments.
     """
@@ -146,9 +146,12 @@ def parse_edit(text):
             changes.append(Change(file, old, said))
             old = None
         elif word == "more":
-            if not changes or changes[-1].path != file or old is not None:
-                raise BadEdit("a line 'more:' stands behind no line 'new:'")
-            changes[-1] = changes[-1]._replace(new=f"{changes[-1].new}\n{said}")
+            if old is not None:
+                old = f"{old}\n{said}"
+            elif changes and changes[-1].path == file:
+                changes[-1] = changes[-1]._replace(new=f"{changes[-1].new}\n{said}")
+            else:
+                raise BadEdit("a line 'more:' stands behind no line 'old:' or 'new:'")
         elif word:
             words.setdefault(word, []).append(said)
     if not changes:

@@ -71,10 +71,23 @@ static void keep_time(void) {
         start_timer();
 }
 
+/* Wake-ups without cause, for trials: each so many rounds the next core is woken that stands in a stop. */
+static void rouse(void) {
+#ifdef ROUSE
+    static unsigned rounds, core;
+    for (unsigned k = ++rounds % ROUSE ? CORES : 0; k < CORES; k++) {
+        core = (core + 1) % CORES;
+        if (shared.doors[core].opened && wake(core))
+            return;
+    }
+#endif
+}
+
 void control_power(void) {
     open_door(0);
     for (;;) {
         keep_time();
+        rouse();
         while (serve_message() || serve_stops() || serve_wake() || record_tell()) {
         }
         wait_for_interrupt();

@@ -305,9 +305,10 @@ swept_beside() {
 
 # what was found of a peer stays found: each story is a script, whether its sources are here or not
 stories_beside() {
-    local peer lists
-    local -a inputs
-    if "$beside/scripts" --check "${peers_beside[@]}" > "$work/out"; then pass; else
+    local peer lists report
+    local -a inputs known
+    mapfile -t known < <(cd "$beside/peers" && ls -- */report | sed 's|/report||' | grep -v '^own$')
+    if "$beside/scripts" --check "${known[@]}" > "$work/out"; then pass; else
         fail "$beside/scripts --check"
         cat "$work/out"
     fi
@@ -321,21 +322,24 @@ stories_beside() {
             continue
         fi
         build_beside "$peer" "$peer" || continue
+        # a newer version without a report has that of its elder
+        report=$beside/peers/$peer/report
+        [ -e "$report" ] || report=$beside/peers/$(cat "$beside/peers/$peer/elder")/report
         "$beside/corpus" --unpack "$peer" "$work/beside/inputs-$peer"
         mapfile -t inputs < <(compgen -G "$work/beside/inputs-$peer/*")
         [ ${#inputs[@]} != 0 ] || inputs=(--draws 2000)
-        if "$work/beside/$peer" --stories "$beside/peers/$peer/report" > "$work/out" 2>&1 &&
+        if "$work/beside/$peer" --stories "$report" > "$work/out" 2>&1 &&
             "$work/beside/$peer" "${inputs[@]}" >> "$work/out" 2>&1; then pass; else
-            fail "$beside/peers/$peer/report"
+            fail "$peer: $report"
             tail -n 5 "$work/out"
         fi
-        lists=$(grep -m 1 -o 'of [0-9]* lists' "$beside/peers/$peer/report" | tr -cd 0-9)
+        lists=$(grep -m 1 -o 'of [0-9]* lists' "$report" | tr -cd 0-9)
         BESIDE_REPORT=$work/made "$work/beside/$peer" --draws "$lists" > "$work/out" 2>&1
-        if diff "$beside/peers/$peer/report" "$work/made" > "$work/out"; then pass; else
-            fail "$beside/peers/$peer/report: made anew by $lists blind lists it is another one"
+        if diff "$report" "$work/made" > "$work/out"; then pass; else
+            fail "$peer: $report: made anew by $lists blind lists it is another one"
             head -n 5 "$work/out"
         fi
-        sed 's/^  | enter 0$/&\n  | call 0 0x84000000 0x0 0x0 0x0/' "$beside/peers/$peer/report" > "$work/report"
+        sed 's/^  | enter 0$/&\n  | call 0 0x84000000 0x0 0x0 0x0/' "$report" > "$work/report"
         if ! "$work/beside/$peer" --stories "$work/report" > "$work/out" 2>&1 &&
             [ "$(grep -c '^event . can go: ' "$work/out")" = "$(grep -c '^= ' "$work/report")" ]; then pass; else
             fail "$beside: an event that a story of $peer doesn't need is not told"

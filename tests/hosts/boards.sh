@@ -115,7 +115,7 @@ board_faults() {
             fail "hosts/el3/run --board $1 --fault $name does not say '$text'"
             tail -n 5 "$work/out"
         fi
-    done < tests/hosts/port-faults.txt
+    done < <(hosts/plant --told hosts/el3/faults.edits)
 }
 
 # played_on BOARD OPTIONS [LIST..]: lists of the payload there

@@ -24,14 +24,13 @@ el3_records() {
             print names[at], many[at]
         }
     }' > "$work/rows"
-    for file in hosts/el3/runs/*.record.xz; do
-        has_xz "$file" || continue
-        xz -dc "$file" > "$work/run.record"
-        name=$(sed -n 's/^# machine //p' "$work/run.record")
+    hosts/records take hosts/el3/runs.tar.xz "$work/runs"
+    for file in "$work"/runs/*.record; do
+        name=$(sed -n 's/^# machine //p' "$file")
         # of 64 cores the second model takes minutes
-        if [[ $file = *-sixty-four.* ]]; then compared 0 "are answered as by the proved program" "$work/run.record" --quick
-        else compared 0 "safe after each of them" "$work/run.record" ${name:+--machine "hosts/el3/machines/$name"}; fi
-        name=$(basename "$file" .record.xz) many=$(sed -n 's/.*: \([0-9]*\) events are answered.*/\1/p' "$work/out")
+        if [[ $file = *-sixty-four.* ]]; then compared 0 "are answered as by the proved program" "$file" --quick
+        else compared 0 "safe after each of them" "$file" ${name:+--machine "hosts/el3/machines/$name"}; fi
+        name=$(basename "$file" .record) many=$(sed -n 's/.*: \([0-9]*\) events are answered.*/\1/p' "$work/out")
         if grep -qx "$name $many" "$work/rows"; then pass; else fail "hosts/el3/README.md: $name has $many events"; fi
     done
 }
@@ -40,8 +39,9 @@ el3_records() {
 # boot core is another, two cores have each other's MPIDR, a core has one that is not there, two words are exchanged
 other_machines() {
     local text change machine=hosts/el3/machines/affinity-1.machine
-    has_python "other machines for a record" && has_xz hosts/el3/runs/affinity-1.record.xz || return
-    xz -dc hosts/el3/runs/affinity-1.record.xz | grep -v ^mpidr > "$work/run.record"
+    has_python "other machines for a record" || return
+    hosts/records take hosts/el3/runs.tar.xz "$work" affinity-1.record
+    grep -v ^mpidr "$work/affinity-1.record" > "$work/run.record"
     compared 0 "are answered as by the proved program" "$work/run.record" --quick --machine $machine
     while IFS='|' read -r text change; do
         sed "$change" $machine > "$work/other.machine"
@@ -53,9 +53,8 @@ the proved program: return 0 #0 start |s/^core 0x0$/core 0x1000/; s/^core 0x100$
 no core has the MPIDR 0x200|s/^core 0x200/core 0x201/
 the proved program: stop |s/^word 0x00010022/word 0x000100ff/; s/^word 0x00010011/word 0x00010022/; s/^word 0x000100ff/word 0x00010011/
 END
-    xz -dc hosts/el3/runs/affinity-1.record.xz > "$work/run.record"
     sed 's/^core 0x200/core 0x201/' $machine > "$work/other.machine"
-    compared 3 "line 2: these are not the MPIDRs of the machine" "$work/run.record" --machine "$work/other.machine"
+    compared 3 "line 2: these are not the MPIDRs of the machine" "$work/affinity-1.record" --machine "$work/other.machine"
 }
 
 # the lists of each machine that is stored are those of its text, and of a board's text
@@ -125,7 +124,7 @@ sentences() { by_python docs/sentences; }
 # what the port's assembly does to processors, and the faults that are told there
 el3_silicon() {
     local tool name check _ text
-    for tool in aarch64-linux-gnu-gcc qemu-aarch64-static patch; do
+    for tool in aarch64-linux-gnu-gcc qemu-aarch64-static python3; do
         command -v "$tool" > /dev/null || { skip "hosts/el3 on processors that are played" "$tool"; return; }
     done
     if timeout "$patience" hosts/el3/checks/silicon > "$work/out" 2>&1; then pass; else
@@ -140,20 +139,24 @@ el3_silicon() {
             fail "$name is seen by silicon, which does not say '$text'"
             head -n 5 "$work/out"
         fi
-    done < tests/hosts/port-faults.txt
+    done < <(hosts/plant --told hosts/el3/faults.edits)
+}
+
+# planted HOST NAME FOLDER: makes the folder one with the host's sources, in which this fault of its list is planted
+planted() {
+    rm -rf "$3"
+    cp -r "hosts/$1" "$3"
+    hosts/plant "hosts/$1/faults.edits" "$2" "$3" && ! diff -rq "hosts/$1" "$3" > "$work/out"
 }
 
 # each fault still fits the port's sources, and the port still compiles with it
 el3_faults() {
-    local file copy=$work/el3-copy
-    command -v patch > /dev/null || { skip "faults of hosts/el3" patch; return; }
+    local name copy=$work/el3-copy
+    has_python "faults of hosts/el3" || return
     command -v aarch64-linux-gnu-gcc > /dev/null ||
         skip "compiling faults of hosts/el3" aarch64-linux-gnu-gcc
-    for file in hosts/el3/faults/*.patch; do
-        rm -rf "$copy"
-        cp -r hosts/el3 "$copy"
-        if patch -s -F0 -d "$copy" -p1 < "$file" && ! diff -rq hosts/el3 "$copy" > "$work/out" &&
-            compiles "$copy"; then pass; else fail "$file"; fi
+    for name in $(sed -n 's/^== //p' hosts/el3/faults.edits); do
+        if planted el3 "$name" "$copy" && compiles "$copy"; then pass; else fail "hosts/el3/faults.edits: $name"; fi
     done
 }
 
@@ -256,13 +259,15 @@ el3_live_faults() {
     live_slow
 }
 
-# with accesses that have to be aligned, frames that are lost, three lives, a reset that nobody has ordered, and a
-# kernel that begins another
+# with accesses that have to be aligned, frames that are lost, wake-ups without cause, three lives, a reset that nobody
+# has ordered, and a kernel that begins another
 el3_live_more() {
     local took
     can_boot || return
     live strict --strict each idle
     live lost-frames --lose 5 each suspend-5
+    live roused --lose 5 --rouse 3 each boot-core suspend-5
+    if grep -q ", parks [1-9]" "$work/el3-roused/el3.log"; then pass; else fail "hosts/el3/run --rouse 3: no core parks"; fi
     live_unsent
     live three-lives --board "(2 2) $space lives 3" each reboot
     live cut --reset-at "guest: core 2 off" each idle

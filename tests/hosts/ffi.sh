@@ -546,7 +546,7 @@ c_rules() {
         fail "hosts/tried.txt"
         cat "$work/out"
     fi
-    sed 's/no-gate.patch/no-fence.patch/' hosts/tried.txt > "$work/tried"
+    sed 's/faults.edits no-gate/faults.edits no-fence/' hosts/tried.txt > "$work/tried"
     if tests/hosts/tried "$work/tried" > "$work/out"; then fail "tests/hosts/tried lets through a fault that is not there"; else pass; fi
     has_cc "the rules of a port" || return
     for name in rules resets link lock power; do

@@ -30,30 +30,21 @@ kvm_turns() {
     done
     if grep -q "^enter 0x0 3 " "$work/run.record"; then pass; else fail "turns: too few lives"; fi
     for fault in runs-on end-unseen; do
-        rm -rf "$copy"
-        cp -r hosts/kvm "$copy"
-        patch -s -d "$copy" -p1 < "hosts/kvm/faults/$fault.patch" && built_turns "$copy" || fail "turns: $fault"
+        planted kvm "$fault" "$copy" && built_turns "$copy" || fail "turns: $fault"
         if "$work/turns" 1 3000 "$work/run.record" 2> "$work/err" || ! grep -q "a call was refused: 19" "$work/err"
         then fail "turns: $fault is not seen"; else pass; fi
     done
 }
 
-# each fault still fits the monitor's sources, and the list says who tells it, as the page does; the list has no other.
-# What any monitor links is as small as the page says
+# each fault still fits the monitor's sources, and the list says who tells it, as the page does. What any monitor links is
+# as small as the page says
 kvm_faults() {
-    local file name teller copy=$work/kvm
-    command -v patch > /dev/null || { skip "faults of hosts/kvm" patch; return; }
-    for file in hosts/kvm/faults/*.patch; do
-        name=$(basename "$file" .patch)
-        teller=$(sed -n "s/^$name|\([^|]*\)|.*/\1/p" tests/hosts/kvm-faults.txt)
-        rm -rf "$copy"
-        cp -r hosts/kvm "$copy"
-        if patch -s -F0 -d "$copy" -p1 < "$file" && grep -q "^| \`$name\`: .* | .*${teller:-nobody}" hosts/kvm/README.md
-        then pass; else fail "$file"; fi
-    done
-    while IFS='|' read -r name _; do
-        if [ -e "hosts/kvm/faults/$name.patch" ]; then pass; else fail "hosts/kvm/faults has no $name"; fi
-    done < <(grep -v '^#' tests/hosts/kvm-faults.txt)
+    local name teller
+    has_python "faults of hosts/kvm" || return
+    while IFS='|' read -r name teller _; do
+        if planted kvm "$name" "$work/kvm" && grep -q "^| \`$name\`: .* | .*${teller:-nobody}" hosts/kvm/README.md
+        then pass; else fail "hosts/kvm/faults.edits: $name"; fi
+    done < <(hosts/plant --told hosts/kvm/faults.edits)
     if [ "$(cat hosts/kvm/{cores,vcpu,record}.c hosts/kvm/vmm.h | wc -l)" -le 450 ] &&
         [ "$(cat hosts/kvm/kvmtool/{psci.c,kvmtool.patch} | wc -l)" = 235 ]
     then pass; else fail "the lines of hosts/kvm"; fi
@@ -118,7 +109,7 @@ kvm_live() {
     linux_agrees "${words[@]}"
     # a fault may hang, and gets more time than all of this took without one
     took=$((SECONDS - begun))
-    mapfile -t faults < <(grep -v '^#' tests/hosts/kvm-faults.txt)
+    mapfile -t faults < <(hosts/plant --told hosts/kvm/faults.edits)
     IFS='|' read -ra fault <<< "${faults[$(git rev-list --count HEAD 2> /dev/null || echo 0) % ${#faults[@]}]}"
     kvm_fault "${fault[@]}"
 }

@@ -1,11 +1,10 @@
 # What Linux and other firmware did, beside the built program, sourced by ./test after
-# tests/program/program.sh: stored runs, traces that tools/trace-to-script makes scripts of, and
-# the host that stands between QEMU and the program, with a stub for QEMU.
+# tests/program/program.sh: stored runs, and traces that tools/trace-to-script makes scripts of.
 
 # each stored run that is compressed, unpacked first
 stored_runs() {
     local file name
-    for file in examples/linux/*.psci.xz hosts/qemu/logs/*.psci.xz; do
+    for file in examples/linux/*.psci.xz; do
         has_xz "$file" || continue
         name=$work/$(basename "${file%.psci.xz}")
         xz -dc "$file" > "$name.psci"
@@ -17,12 +16,13 @@ stored_runs() {
 # bare: answer lines without their messages and numbers, as a trace can be compared with
 bare() { sed 's/ #.*//; s/started .*/started/'; }
 
-# each trace in tests/hosts/traces/: its script, what was recorded, and the same answers by the program
+# each trace in tests/hosts/traces.txt: its script, what was recorded, and the same answers by the program
 traces() {
     local file name
     local -a words
     has_python "tools/trace-to-script" || return
-    for file in tests/hosts/traces/*.txt; do
+    hosts/records take tests/hosts/traces.txt "$work/traces"
+    for file in "$work"/traces/*.txt; do
         name=${file%.txt} words=()
         [ ! -f "$name.words" ] || mapfile -t words < "$name.words"
         tools/trace-to-script "${words[@]}" < "$file" > "$work/script"
@@ -71,13 +71,4 @@ faulty_traces() {
         if ! echo "$line" | tools/trace-to-script --acknowledged > "$work/out" 2> "$work/err" &&
             grep -q '^line [12]: ' "$work/err"; then pass; else fail "the trace '$line'"; fi
     done
-}
-
-# the host of hosts/qemu: its protocol, its link, and a firmware that is wrong
-qemu_host() {
-    has_python tests/hosts/qemu-host || return
-    if timeout "$patience" tests/hosts/qemu-host "$program" > "$work/out" 2>&1; then pass; else
-        fail tests/hosts/qemu-host
-        tail -n 20 "$work/out"
-    fi
 }

@@ -1,6 +1,6 @@
 # The C of the port at EL3 without the emulated machine (hosts/el3/checks), sourced by ./test after tests/hosts/ffi.sh: its
 # heaps, its doors and gates, its cores as threads, all values by Eva, and which of the planted faults each of these sees
-# (tests/hosts/port-faults.txt). And a search of what crates/psci_port proves of a port.
+# (hosts/el3/faults.edits). And a search of what crates/psci_port proves of a port.
 
 checks=hosts/el3/checks
 race=(-fsanitize=thread -fno-builtin)
@@ -141,15 +141,14 @@ seen_by() {
     esac
 }
 
-# each planted fault is seen by the check that its line names, and says what the line has; each stands in a line, and in
+# each planted fault is seen by the check that its line names, and says what the line has; each has a line, and stands in
 # the tables of the page. Those of lists, `linux` and boards are tried where QEMU is, those of `silicon` by el3_silicon
 port_faults() {
-    local name check machine text known=" "
+    local name check machine text
     has_cc "faults of hosts/el3" && has_python "faults of hosts/el3" || return
     while IFS='|' read -r name check machine text; do
-        known+="$name "
-        if [ -f "hosts/el3/faults/$name.patch" ] && grep -qF "\`$name\`" hosts/el3/README.md; then pass; else
-            fail "tests/hosts/port-faults.txt: $name is no fault, or hosts/el3/README.md does not have it"
+        if [ -n "$check" ] && grep -qF "\`$name\`" hosts/el3/README.md; then pass; else
+            fail "hosts/el3/faults.edits says of $name nobody who tells it, or hosts/el3/README.md does not have it"
         fi
         [[ " heaps door gate threads monitors record lossy eva " == *" $check "* ]] || continue
         [ "$check" != eva ] || command -v frama-c > /dev/null || { skip "the fault $name" frama-c; continue; }
@@ -160,11 +159,7 @@ port_faults() {
             tail -n 5 "$work/out"
         fi
         unset FAULT
-    done < tests/hosts/port-faults.txt
-    for name in hosts/el3/faults/*.patch; do
-        name=$(basename "$name" .patch)
-        [[ $known == *" $name "* ]] || fail "tests/hosts/port-faults.txt has no line of $name"
-    done
+    done < <(hosts/plant --told hosts/el3/faults.edits)
 }
 
 # listed FAULT SECONDS [LIST]: what cores get of the port on QEMU, in which this fault may be planted, and what the judge
@@ -214,7 +209,7 @@ port_lists() {
             fail "$name is seen by the list $list, which does not say '$text'"
             head -n 5 "$work/out"
         fi
-    done < tests/hosts/port-faults.txt
+    done < <(hosts/plant --told hosts/el3/faults.edits)
 }
 
 # a reset after each single instruction of a call

@@ -5,23 +5,16 @@
 tfa_records() {
     local file
     has_python "records of hosts/tfa" || return
-    for file in hosts/tfa/runs/*.record.xz; do
-        has_xz "$file" || continue
-        xz -dc "$file" > "$work/run.record"
-        compared 0 "safe after each of them" "$work/run.record"
-    done
+    hosts/records take hosts/tfa/runs.tar.xz "$work/runs"
+    for file in "$work"/runs/*.record; do compared 0 "safe after each of them" "$file"; done
 }
 
 # each fault still fits the adaptor's sources
 tfa_faults() {
-    local file copy=$work/tfa-copy
-    command -v patch > /dev/null || { skip "faults of hosts/tfa" patch; return; }
-    for file in hosts/tfa/faults/*.patch; do
-        rm -rf "$copy"
-        cp -r hosts/tfa "$copy"
-        if patch -s -F0 -d "$copy" -p1 < "$file" && ! diff -rq hosts/tfa "$copy" > "$work/out"; then pass; else
-            fail "$file"
-        fi
+    local name
+    has_python "faults of hosts/tfa" || return
+    for name in $(sed -n 's/^== //p' hosts/tfa/faults.edits); do
+        if planted tfa "$name" "$work/tfa-copy"; then pass; else fail "hosts/tfa/faults.edits: $name"; fi
     done
 }
 
@@ -35,10 +28,7 @@ downs_of() {
 # downs_fail FAULT TEXT: with this fault the try ends with this text
 downs_fail() {
     local copy=$work/tfa-copy
-    rm -rf "$copy"
-    cp -r hosts/tfa "$copy"
-    patch -s -F0 -d "$copy" -p1 < "hosts/tfa/faults/$1.patch"
-    if ! downs_of "$copy" && grep -q "$2" "$work/out"; then pass; else
+    if planted tfa "$1" "$copy" && ! downs_of "$copy" && grep -q "$2" "$work/out"; then pass; else
         fail "hosts/tfa/downs.c with the fault $1"
         head -n 5 "$work/out"
     fi
@@ -47,9 +37,9 @@ downs_fail() {
 # a Down of which a part is left waits, no start is lost, no poll waits, and domains are locked as the mode asks;
 # and the faults that break these show
 tfa_downs() {
-    local name
+    local name check text
+    has_python "downs of hosts/tfa" || return
     command -v cc > /dev/null || { skip "downs of hosts/tfa" cc; return; }
-    command -v patch > /dev/null || { skip "downs of hosts/tfa" patch; return; }
     [ -f "$archive" ] || { skip "downs of hosts/tfa" "$archive"; return; }
     for name in lib/psci/psci.h plat/common/platform.h common/debug.h lib/spinlock.h psci_private.h; do
         mkdir -p "$(dirname "$work/stand-in/$name")"
@@ -59,10 +49,9 @@ tfa_downs() {
         fail "hosts/tfa/downs.c"
         head -n 5 "$work/out"
     fi
-    downs_fail own-switch "again and again, and the lock is held"
-    downs_fail lost-start "a CPU_ON is accepted, and nobody starts the core"
-    downs_fail poll-waits "waits for the lock"
-    downs_fail stale-mode "a suspend with no domain locked is asked"
+    while IFS='|' read -r name check text; do
+        [ "$check" != downs ] || downs_fail "$name" "$text"
+    done < <(hosts/plant --told hosts/tfa/faults.edits)
 }
 
 # tfa_says TEXT WORD..: hosts/tfa/run refuses these words with this text, with no more tools than are named

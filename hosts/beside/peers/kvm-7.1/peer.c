@@ -1,1 +1,0 @@
-#include "../kvm/peer.c"

@@ -1,1 +1,0 @@
-#include "../qemu/peer.c"
