@@ -160,6 +160,13 @@ static void lives(void) {
     want("it goes down", PSCI_CTL_SWITCH, deliver(PSCI_FRAME_LEN));
     want("with its cluster", 2, answer.it.many);
     want("which is the second one", 1, answer.it.domains[1].index);
+    frame[11] = 7;
+    want("its generations count, and not its number", PSCI_CTL_SWITCH, deliver(PSCI_FRAME_LEN));
+    frame[14] = frame[24] = 2;
+    want("and a later Down may be less deep", PSCI_CTL_SWITCH, deliver(PSCI_FRAME_LEN));
+    want("as deep as it says", 2, psci_ctl_depth(&place.it, 1, 1));
+    message(1, 3, 1, 1, 2);
+    want("deeper again", PSCI_CTL_SWITCH, deliver(PSCI_FRAME_LEN));
     want("deep", PSCI_CTL_POWER_DOWN, psci_ctl_depth(&place.it, 1, 1));
     want("no such cluster", PSCI_NO_CORE, psci_ctl_depth(&place.it, 1, 2));
     want("no such level", PSCI_NO_CORE, psci_ctl_depth(&place.it, 3, 0));

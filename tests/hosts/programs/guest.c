@@ -193,6 +193,13 @@ static void values(void) {
     NONE("started more often", runs, made[CORES + 7] = 201);
     KEPT("messages", runs, (send(0, PSCI_MESSAGE_RESET, 1, 1, 0), send(2, PSCI_MESSAGE_DOWN, 1, 1, 3)));
     KEPT("halting", runs, made[3] = 1);
+    KEPT("halting, and a core on its way", pends, made[3] = 1);
+    psci_guest_reset(&guest, 3, &turn);
+    want("it enters", 3, turn.start.core);
+    want("and stops at once", PSCI_STOP, turn.entry.what);
+    must_save(&guest, made);
+    want("on its way still", 0, made[CORES + 6]);
+    want("to no opening", 0, made[ROWS + 13]);
     KEPT("halting, with an opening", runs, (made[3] = 1, made[ROWS + 1] = 1));
     NONE("halting, and granted what it asks not", runs, (made[3] = 1, made[GRANTED] = 1));
     NONE("runs with an opening", runs, made[ROWS + 1] = 1);

@@ -428,6 +428,48 @@ static void refusals(void) {
     want("old", PSCI_OLD, take_changed(12, 1, PSCI_FRAME_LEN));
 }
 
+/* Who runs in a halting life, and what is granted and on while none asks. */
+static void beside_calls(void) {
+    want("opened", PSCI_OPENED, open_text("((1 1) (1 1))" REST));
+    want("the system, not granted", 0, psci_granted(&place.it, 3, 0));
+    enter(0, 1, 1, PSCI_CAUSE_BOOT);
+    want("SYSTEM_SUSPEND", PSCI_STOP, smc(0, 0xc400000e, 0x40002000, 8, 0));
+    want("the system, powered down", 3, psci_granted(&place.it, 3, 0));
+    want("not yet", PSCI_HW_ON, psci_hw(&place.it, 3, 0));
+    want("used", PSCI_USED, take_changed(12, 4, PSCI_FRAME_LEN));
+    want("and now it is", PSCI_HW_OFF, psci_hw(&place.it, 3, 0));
+    want("woken", PSCI_ENTER, enter(0, 1, 2, PSCI_CAUSE_WAKE));
+    want("the system on its path", 0, psci_granted(&place.it, 3, 0));
+    smc(0, 0x84000002, 0, 0, 0);
+    want("the core that goes off is on", PSCI_STATUS_ON, psci_status(&place.it, 3, 0));
+    want("used", PSCI_USED, take_changed(12, 4, PSCI_FRAME_LEN));
+    want("all are off", PSCI_STATUS_OFF, psci_status(&place.it, 3, 0));
+    want("parks in the next life", PSCI_STOP, enter(2, 2, 1, PSCI_CAUSE_WAKE));
+    want("the boot core's path in it", 0, psci_granted(&place.it, 0, 0));
+    want("which is on its way", PSCI_STATUS_PENDING, psci_status(&place.it, 3, 0));
+    make(do_close);
+    want("opened", PSCI_OPENED, open_text(small));
+    enter(0, 1, 1, PSCI_CAUSE_BOOT);
+    for (uint16_t other = 1; other < 4; other++) {
+        smc(0, 0xc4000003, other == 1 ? 1 : 0x100 + other - 2, 0x40001000, 7);
+        want("entered", PSCI_ENTER, enter(other, 1, 1, PSCI_CAUSE_ON));
+    }
+    want("core 1 goes off", PSCI_STOP, smc(1, 0x84000002, 0, 0, 0));
+    frame.it = answer.it.message;
+    want("SYSTEM_OFF", PSCI_STOP, smc(0, 0x84000008, 0, 0, 0));
+    want("its caller stopped", false, psci_running(&place.it, 0));
+    want("core 2 runs", true, psci_running(&place.it, 2));
+    want("until it calls", PSCI_STOP, smc(2, 0x84000000, 0, 0, 0));
+    want("and stopped then", false, psci_running(&place.it, 2));
+    want("core 3 enters", PSCI_STOP, enter(3, 1, 2, PSCI_CAUSE_RESET));
+    want("and stops at once", false, psci_running(&place.it, 3));
+    answer.it.message = frame.it;
+    want("what was sent before", PSCI_USED, take_changed(12, 1, PSCI_FRAME_LEN));
+    want("powers down", PSCI_HW_OFF, psci_hw(&place.it, 0, 1));
+    want("and is off", PSCI_STATUS_OFF, psci_status(&place.it, 0, 1));
+    make(do_close);
+}
+
 /* Numbers of starts have 32 bits: a board that allows so many, and cores that are at this limit. */
 static void long_starts(void) {
     static const char *const text_of = "(2 2) exec 0x40000000-0x40100000 boot 0x40000000 starts 2147483651 lives 3";
@@ -438,6 +480,12 @@ static void long_starts(void) {
     want("resumes by the next one", PSCI_RESUME, enter(0, 1, 65537, PSCI_CAUSE_WAKE));
     want("in standby again", PSCI_STOP, smc(0, 0xc4000001, 0x1, 0, 0));
     want("by another one it parks", PSCI_STOP, enter(0, 1, 65537 + 65537, PSCI_CAUSE_WAKE));
+    want("opened anew", PSCI_OPENED, open_text(text_of));
+    enter(0, 1, 1, PSCI_CAUSE_BOOT);
+    want("on", PSCI_RETURN, smc(0, 0xc4000003, 0x101, 0x40000000, 0));
+    want("entered", PSCI_ENTER, enter(3, 1, 1, PSCI_CAUSE_ON));
+    want("in standby", PSCI_STOP, smc(3, 0xc4000001, 0x1, 0, 0));
+    want("does not resume in the next life", PSCI_STOP, enter(3, 2, 2, PSCI_CAUSE_WAKE));
     want("the next life", PSCI_ENTER, enter(0, 2, limit, PSCI_CAUSE_BOOT));
     want("a suspend at the limit", PSCI_RETURN, smc(0, 0xc4000001, 0x00010003, 0x40000000, 0));
     want("succeeds at once", 0, (uint32_t)answer.it.code);
@@ -587,6 +635,7 @@ int main(void) {
     stops();
     frames();
     pool_give(memory, size);
+    beside_calls();
     long_starts();
     pool_give(memory, size);
     pollers();
