@@ -3,7 +3,7 @@ use Rattle.std.proofs.Common.{pos, negsuc, map, reverse}
 use Rattle.psci_fw_spec.proofs.Words.{◌∷◌, ◌≡◌, [], BoardValue, Bool, Enter, false, Fault, FwCall}
 use Rattle.psci_fw_spec.proofs.Words.{FwExchange, FwFault, FwReply, Kind, legal_reply, List}
 use Rattle.psci_fw_spec.proofs.Words.{MessageValue, None, Out, Part, Smc, Some, start_of_life, suc}
-use Rattle.psci_fw_spec.proofs.Words.{Take, Taken, true, Values, zero, ℕ, ℤ}
+use Rattle.psci_fw_spec.proofs.Words.{Take, Taken, Values, zero, ℕ, ℤ}
 use Rattle.psci_abi.specs.declared.format.Format.TheVariants.{Original}
 use Rattle.psci_board.specs.Board.{core_of, node_of, up}
 use Rattle.psci_messages.specs.Claim.{claims_of}
@@ -49,10 +49,6 @@ board = record {
   lives = 3;
   format = Original;
 }
-
--- the same with other limits: of starts, of lives
-abbrev pub limited : ℕ → ℕ → BoardValue
-limited starts lives = record board { starts = starts; lives = lives }
 
 -- one core
 abbrev pub one_core : BoardValue
@@ -171,10 +167,6 @@ take kind c life number applied stale = record {
 abbrev pub take_down : ℕ → ℕ → ℕ → ℕ → Step
 take_down c life number applied = take kinds.Down c life number applied false
 
--- of a Down, stale
-abbrev pub take_stale : ℕ → ℕ → ℕ → ℕ → Step
-take_stale c life number applied = take kinds.Down c life number applied true
-
 -- Replies -------------------------------------------------------------------------------------
 
 -- the caller goes on with this code, and nothing is sent
@@ -288,10 +280,3 @@ pub record AreAnsweredOn (runs : List (tables.Row BoardValue (List Row))) : Type
       map (λ run. by_values run.given (start_of_life run.given 0) (map (λ r. r.given) run.comes))
       runs
       ≡ map (λ run. map (λ r. r.comes) run.comes) runs
-
--- the same of runs of one board, and of one run
-abbrev pub AreAnsweredAll : BoardValue → List (List Row) → Type 0
-AreAnsweredAll b runs = AreAnsweredOn (map (λ run. b ⇒ run) runs)
-
-abbrev pub AreAnswered : BoardValue → List Row → Type 0
-AreAnswered b rows = AreAnsweredOn (b ⇒ rows ∷ [])
