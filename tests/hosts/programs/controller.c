@@ -170,6 +170,7 @@ static void lives(void) {
     want("deep", PSCI_CTL_POWER_DOWN, psci_ctl_depth(&place.it, 1, 1));
     want("no such cluster", PSCI_NO_CORE, psci_ctl_depth(&place.it, 1, 2));
     want("no such level", PSCI_NO_CORE, psci_ctl_depth(&place.it, 3, 0));
+    want("not woken by the start before", PSCI_CTL_NOTHING, wake(3, 0));
     want("it is woken", PSCI_CTL_START, wake(3, 1));
     want("by its next start", 1 << 16 | 2 << 8 | PSCI_CAUSE_WAKE, found(3));
     want("woken too late", PSCI_CTL_NOTHING, wake(3, 1));

@@ -445,6 +445,7 @@ static void beside_calls(void) {
     want("used", PSCI_USED, take_changed(12, 4, PSCI_FRAME_LEN));
     want("all are off", PSCI_STATUS_OFF, psci_status(&place.it, 3, 0));
     want("parks in the next life", PSCI_STOP, enter(2, 2, 1, PSCI_CAUSE_WAKE));
+    want("no more in the life before", PSCI_OLD_START, enter(3, 1, 3, PSCI_CAUSE_WAKE));
     want("the boot core's path in it", 0, psci_granted(&place.it, 0, 0));
     want("which is on its way", PSCI_STATUS_PENDING, psci_status(&place.it, 3, 0));
     make(do_close);
