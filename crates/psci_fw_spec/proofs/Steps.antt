@@ -116,17 +116,9 @@ system_off c = smc c 0x84000008 0 0 0
 abbrev pub system_reset : ℕ → Step
 system_reset c = smc c 0x84000009 0 0 0
 
--- SYSTEM_RESET2 by a core: reset type, cookie
-abbrev pub system_reset2 : ℕ → ℕ → ℕ → Step
-system_reset2 c reset_type cookie = smc c 0xc4000012 reset_type cookie 0
-
 -- PSCI_SET_SUSPEND_MODE by a core: 0 for platform-coordinated mode, 1 for OS-initiated mode
 abbrev pub set_mode : ℕ → ℕ → Step
 set_mode c mode = smc c 0x8400000f mode 0 0
-
--- PSCI_FEATURES by the boot core
-abbrev pub features : ℕ → Step
-features word = smc 0 0x8400000a word 0 0
 
 -- a core enters: life, number of its start
 abbrev pub enter_by : Cause → ℕ → ℕ → ℕ → Step
