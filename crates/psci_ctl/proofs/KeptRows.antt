@@ -1,19 +1,14 @@
--- Worked examples of what the power controller keeps, row by row. Two clusters of two cores; core 3
--- was started twice, by a wake-up, and its cluster is in retention.
-use Rattle.std.proofs.Common.{◌≡◌, ℕ, ◌+◌, ◌*◌, List, [], ◌∷◌, map, Some, true, false, refl, ap}
-use Rattle.std.proofs.Common.{◌++◌, arith}
-use Rattle.psci_board.proofs.Tables.{◌⇒◌, Gives}
-use Rattle.psci_board.specs.Board.{BoardValue, up}
-use Rattle.psci_board.specs.declared.node.Node.{Node}
+-- Worked examples of rows that no power controller keeps, and of what no call leaves. Two clusters of
+-- two cores; core 3 was started twice, by a wake-up, and its cluster is in retention.
+use Rattle.std.proofs.Common.{◌≡◌, ℕ, List, [], ◌∷◌, Some, refl, ap, ◌++◌, arith}
+use Rattle.psci_board.specs.Board.{BoardValue}
 use Rattle.psci_ctl_spec.specs.psci_abi.declared.format.Format.TheVariants.{Original}
 use Rattle.psci_ctl_spec.specs.Values.{Values, starts_below}
 use Rattle.psci_messages.specs.declared.start.Cause.TheVariants.{Boot, On, Wake}
 use Rattle.psci_ctl.specs.declared.level.DomainRow.{DomainRow}
 use Rattle.psci_ctl.specs.declared.row.CoreRow.{CoreRow}
-use Rattle.psci_ctl.specs.Rows.{HasRows, HasSums, HaveRoom, core_row, deepened, depth_in, domain_at}
-use Rattle.psci_ctl.specs.Rows.{off_core, off_domain, path_on_below, path_on_once, values_in}
-use Rattle.psci_ctl.specs.Rows.{with_core, with_depth}
-use Rattle.psci_ctl.specs.Seen.{ControllerValue, IsController, Leaves, done, start_done}
+use Rattle.psci_ctl.specs.Rows.{HasRows, HasSums, HaveRoom, values_in}
+use Rattle.psci_ctl.specs.Seen.{ControllerValue, IsController, Leaves}
 
 abbrev board : BoardValue
 board = record {
@@ -48,92 +43,8 @@ domains =
     (at 0 1 ∷ at 3 0 ∷ at 3 0 ∷ at 2 2 ∷ [])
     ∷ (at 0 1 ∷ at 2 2 ∷ []) ∷ (at 0 3 ∷ []) ∷ []
 
-abbrev node : ℕ → ℕ → Node
-node level place = record { level = level; place = place }
-
--- Rows --------------------------------------------------------------------------------------------
-
-rows_not_started : (off_core ≡ off) × (off_domain ≡ at 3 0)
-rows_not_started = (refl, refl)
-
--- of each core, and of one beside the board
-rows_of_cores : map (core_row cores) (0 ∷ 1 ∷ 3 ∷ 4 ∷ []) ≡ first ∷ off ∷ woken ∷ off ∷ []
-rows_of_cores = refl
-
--- of domains on three levels, and beside the board: level, place
-rows_of_domains : Gives (λ n. domain_at domains n.level n.place)
-    (node 0 3 ⇒ at 2 2 ∷ node 1 0 ⇒ at 0 1 ∷ node 1 1 ⇒ at 2 2 ∷ node 2 0 ⇒ at 0 3
-    ∷ node 1 2 ⇒ at 3 0 ∷ node 3 0 ⇒ at 3 0 ∷ [])
-rows_of_domains = refl
-
-depths : Gives (λ n. depth_in domains n.level n.place)
-    (node 0 3 ⇒ 2 ∷ node 1 0 ⇒ 0 ∷ node 2 0 ⇒ 0 ∷ node 3 0 ⇒ 3 ∷ [])
-depths = refl
-
-one_core_changed : map (with_core cores 2 asked_on) (1 ∷ 2 ∷ 3 ∷ [])
-    ≡ off ∷ asked_on ∷ woken ∷ []
-one_core_changed = refl
-
--- Starts ------------------------------------------------------------------------------------------
-
-on_once_more : path_on_once (at 2 5) ≡ at 0 6
-on_once_more = refl
-
--- core 3 is started: its domains below the system, and neither the system nor another cluster
-below_the_system : Gives (λ n. path_on_below board 3 domains 2 n.level n.place)
-    (node 0 2 ⇒ at 3 0 ∷ node 0 3 ⇒ at 0 3 ∷ node 1 0 ⇒ at 0 1 ∷ node 1 1 ⇒ at 0 3
-    ∷ node 2 0 ⇒ at 0 3 ∷ [])
-unfolding up
-below_the_system = refl
-
-whole_path : path_on_below board 3 domains 3 2 0 ≡ at 0 4
-unfolding up
-whole_path = refl
-
--- Depths ------------------------------------------------------------------------------------------
-
-abbrev before : ℕ → ℕ → ℕ
-before level place = 10 * level + place
-
-one_domain_deepened : Gives (λ n. deepened (node 1 1) 3 before n.level n.place)
-    (node 1 1 ⇒ 3 ∷ node 1 0 ⇒ 10 ∷ node 2 1 ⇒ 21 ∷ [])
-one_domain_deepened = refl
-
--- a part of a core of the other cluster, for its cluster; and of the first core, for itself
-cluster_as_asked : map
-    (with_depth board 2 (record { level = 1; depth = 2; generation = 5 }) before 1) (0 ∷ 1 ∷ [])
-    ≡ 10 ∷ 2 ∷ []
-unfolding up
-cluster_as_asked = refl
-
-core_as_asked : map (with_depth board 1 (record { level = 0; depth = 3; generation = 5 }) before 0)
-    (0 ∷ 1 ∷ 2 ∷ []) ≡ 0 ∷ 3 ∷ 2 ∷ []
-unfolding up
-core_as_asked = refl
-
--- Values ------------------------------------------------------------------------------------------
-
 abbrev values : Values
 values = values_in (Some 2) cores domains
-
-record AreKept : Type 0 where
-  life : values.life ≡ Some 2
-  starts : map values.starts (0 ∷ 1 ∷ 3 ∷ 4 ∷ []) ≡ 1 ∷ 0 ∷ 2 ∷ 0 ∷ []
-  causes : map values.cause (0 ∷ 3 ∷ 4 ∷ []) ≡ Boot ∷ Wake ∷ Boot ∷ []
-  depths : Gives (λ n. values.depth n.level n.place)
-      (node 0 3 ⇒ 2 ∷ node 1 0 ⇒ 0 ∷ node 1 1 ⇒ 2 ∷ node 1 2 ⇒ 3 ∷ [])
-
-values_kept : AreKept
-values_kept = record { life = refl; starts = refl; causes = refl; depths = refl }
-
--- Done --------------------------------------------------------------------------------------------
-
-two_parts_done : done 2 true ≡ record { applied = 2; stale = true }
-two_parts_done = refl
-
-starts_done : start_done true ∷ start_done false ∷ []
-    ≡ record { applied = 1; stale = false } ∷ record { applied = 0; stale = true } ∷ []
-starts_done = refl
 
 -- Shapes ------------------------------------------------------------------------------------------
 

@@ -10,4 +10,3 @@ pub mod Started
 pub mod Walked
 pub mod Written
 pub mod KeptRows
-pub mod SavedRows

@@ -1,6 +1,5 @@
 pub mod Acknowledged
 pub mod Depths
-mod EdgeRows
 pub mod Follows
 pub mod Front
 pub mod Kept
@@ -8,7 +7,6 @@ mod LegalRows
 pub mod Nested
 pub mod OneMore
 pub mod Past
-mod ScriptRows
 pub mod Steps
 pub mod Sums
 mod ValueRows

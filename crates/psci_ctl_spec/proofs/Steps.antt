@@ -1,5 +1,5 @@
 -- Worked examples are stated so: some calls in turn, and the replies to them.
-use Rattle.std.proofs.Common.{◌≡◌, ℕ, Bool, List, [], ◌∷◌, map, reverse, Option}
+use Rattle.std.proofs.Common.{ℕ, Bool, List, [], ◌∷◌, map, Option}
 use Rattle.psci_messages.specs.psci_abi.declared.format.Format.TheVariants.{Original}
 use Rattle.psci_board.proofs.Tables.{Gives, Row}
 use Rattle.psci_board.specs.Board.{BoardValue, up}
@@ -111,16 +111,6 @@ history_from b h (call ∷ calls) =
 -- the history of these calls, of which the first is the oldest
 abbrev pub history_of : BoardValue → List CtlCall → List CtlExchange
 history_of b calls = history_from b [] calls
-
--- the replies to these calls, in their order
-abbrev pub replies_to : BoardValue → List CtlCall → List CtlReply
-replies_to b calls = reverse (map (λ e. e.reply) (history_of b calls))
-
--- each of these runs, on its board, is replied to so
-abbrev pub AreReplied : List (Row BoardValue (List (Row CtlCall CtlReply))) → Type 0
-AreReplied runs =
-    map (λ run. replies_to run.given (map (λ r. r.given) run.comes)) runs
-    ≡ map (λ run. map (λ r. r.comes) run.comes) runs
 
 -- the values that are kept along a history
 abbrev pub kept_along : BoardValue → List CtlExchange → Values

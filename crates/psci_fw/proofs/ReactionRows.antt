@@ -1,10 +1,7 @@
--- Worked examples of where the message stands that is sent.
-use Rattle.std.proofs.Common.{◌≡◌, ℕ, ◌==◌, [], ◌∷◌, Option, None, Some, Ok, Err, refl, ap, map}
-use Rattle.std.proofs.Common.{arith}
+-- Worked examples of slots where the message stands that is sent, and of others.
+use Rattle.std.proofs.Common.{◌≡◌, ℕ, ◌==◌, [], Option, None, Some, refl, ap, arith}
 use Rattle.std.specs.Prelude.{if◌then◌else◌}
-use Rattle.psci_fw_spec.specs.declared.fault.FwFault.TheVariants.{NoLife}
 use Rattle.psci_fw_spec.specs.declared.outcome.Act.TheVariants.{Stop}
-use Rattle.psci_fw_spec.specs.declared.reply.FwReply.TheVariants.{Out, Fault}
 use Rattle.psci_fw_spec.specs.Lives.{start_of_life}
 use Rattle.psci_fw_spec.specs.Values.{Values}
 use Rattle.psci_messages.specs.declared.kind.Kind.{Kind}
@@ -14,7 +11,7 @@ use Rattle.psci_messages.specs.Slots.{Slot}
 use Rattle.psci_messages.specs.Slots.Slot.{OfCore, OfSystem}
 use Rattle.psci_fw.specs.declared.reaction.Reaction.{Reaction}
 use Rattle.psci_fw_state.proofs.KeptRows.{board}
-use Rattle.psci_fw.specs.Reactions.{IsInItsSlot, outcome_in, reply_in, sent_from, slot_number}
+use Rattle.psci_fw.specs.Reactions.{IsInItsSlot}
 
 abbrev message : Kind → ℕ → MessageValue
 message kind core =
@@ -32,25 +29,6 @@ values = record (start_of_life board 2) { outstanding = waiting }
 
 abbrev stops_with : Option ℕ → Reaction
 stops_with slot = record { act = Stop; slot = slot }
-
--- a core's slot has its number, and that of the system the number of cores
-slots : map (slot_number board) (message Down 3 ∷ message Start 2 ∷ message Reset 1 ∷ [])
-    ≡ 3 ∷ 2 ∷ 4 ∷ []
-slots = refl
-
-sent : map (sent_from board values) (Some 3 ∷ Some 4 ∷ Some 2 ∷ None ∷ [])
-    ≡ Some (message Down 3) ∷ Some (message Reset 1) ∷ None ∷ None ∷ []
-sent = refl
-
-whole : reply_in board values (Ok (stops_with (Some 3)))
-    ≡ Out (record { act = Stop; message = Some (message Down 3) })
-whole = refl
-
-nothing_sent : outcome_in board values (stops_with None) ≡ record { act = Stop; message = None }
-nothing_sent = refl
-
-refused : reply_in board values (Err NoLife) ≡ Fault NoLife
-refused = refl
 
 -- a slot is named where it has what is sent, and not an empty one, nor that of another message
 in_its_slot : IsInItsSlot board values (stops_with (Some 3))

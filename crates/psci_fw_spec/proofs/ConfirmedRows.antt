@@ -4,17 +4,34 @@ use Rattle.std.proofs.Common.{◌++◌, ◌∷◌, Bool, List, [], false, map, r
 use Rattle.psci_board.proofs.Tables.{◌⇒◌, Gives, Row}
 use Rattle.psci_board.specs.Board.{BoardValue}
 use Rattle.psci_messages.specs.declared.kind.Kind.TheVariants as kinds
-use Rattle.psci_fw_spec.specs.Lives.{first_confirmed}
+use Rattle.psci_fw_spec.specs.After.{after}
+use Rattle.psci_fw_spec.specs.Exchange.{FwExchange}
+use Rattle.psci_fw_spec.specs.History.{values_of}
+use Rattle.psci_fw_spec.specs.Lives.{first_confirmed, start_of_life}
 use Rattle.psci_fw_spec.specs.Values.{Values}
-use Rattle.psci_fw_spec.proofs.LopsidedRows.{lopsided}
 use Rattle.psci_fw_spec.proofs.Steps.{Step, board, boot, computing, enter_boot, enter_on}
 use Rattle.psci_fw_spec.proofs.Steps.{enter_wake, history_of, off, on, on_3, one_core}
 use Rattle.psci_fw_spec.proofs.Steps.{part, set_mode, starts, stops, suspend, system_reset}
 use Rattle.psci_fw_spec.proofs.Steps.{system_suspend, take, take_down, tall, uneven, with_entry}
-use Rattle.psci_fw_spec.proofs.ValueRows.{Leave}
+
+-- a group of a cluster of two cores and a cluster of one, and a group of one core: 0x000, 0x001;
+-- 0x100; 0x10000
+abbrev lopsided : BoardValue
+lopsided = record board { levels = (2 ∷ 1 ∷ 1 ∷ []) ∷ (2 ∷ 1 ∷ []) ∷ (2 ∷ []) ∷ [] }
+
+-- the values that are kept from call to call, after the calls and replies of a history
+abbrev kept_after : BoardValue → List FwExchange → Values
+kept_after b [] = start_of_life b 0
+kept_after b (e ∷ h) = after b e.core e.call e.reply (kept_after b h)
+
+-- each of these pasts leaves what is said of it, by its history and by the values that are kept
+record Leave {Past Said : Type 0} (b : BoardValue) (history : Past → List FwExchange)
+    (said : Values → Said) (rows : List (Row Past Said)) : Type 0 where
+  by_history : Gives (λ past. said (values_of b (history past))) rows
+  by_values : Gives (λ past. said (kept_after b (history past))) rows
 
 -- of cores 0 to 3 and of one beyond the last, and of the domains of each level above
-abbrev pub shown_confirmed : Values → List (List Bool)
+abbrev shown_confirmed : Values → List (List Bool)
 shown_confirmed v =
     map (v.confirmed 0) (0 ∷ 1 ∷ 2 ∷ 3 ∷ 4 ∷ []) ∷ map (v.confirmed 1) (0 ∷ 1 ∷ 2 ∷ [])
     ∷ map (v.confirmed 2) (0 ∷ 1 ∷ []) ∷ map (v.confirmed 3) (0 ∷ []) ∷ []

@@ -3,7 +3,7 @@ use Rattle.std.proofs.Common.{pos, negsuc, map, reverse}
 use Rattle.psci_fw_spec.proofs.Words.{◌∷◌, ◌≡◌, [], BoardValue, Bool, Enter, false, Fault, FwCall}
 use Rattle.psci_fw_spec.proofs.Words.{FwExchange, FwFault, FwReply, Kind, legal_reply, List}
 use Rattle.psci_fw_spec.proofs.Words.{MessageValue, None, Out, Part, Smc, Some, start_of_life, suc}
-use Rattle.psci_fw_spec.proofs.Words.{Take, Taken, true, Values, zero, ℕ, ℤ}
+use Rattle.psci_fw_spec.proofs.Words.{Take, Taken, Values, zero, ℕ, ℤ}
 use Rattle.psci_abi.specs.declared.format.Format.TheVariants.{Original}
 use Rattle.psci_board.specs.Board.{core_of, node_of, up}
 use Rattle.psci_messages.specs.Claim.{claims_of}
@@ -49,10 +49,6 @@ board = record {
   lives = 3;
   format = Original;
 }
-
--- the same with other limits: of starts, of lives
-abbrev pub limited : ℕ → ℕ → BoardValue
-limited starts lives = record board { starts = starts; lives = lives }
 
 -- one core
 abbrev pub one_core : BoardValue
@@ -120,17 +116,9 @@ system_off c = smc c 0x84000008 0 0 0
 abbrev pub system_reset : ℕ → Step
 system_reset c = smc c 0x84000009 0 0 0
 
--- SYSTEM_RESET2 by a core: reset type, cookie
-abbrev pub system_reset2 : ℕ → ℕ → ℕ → Step
-system_reset2 c reset_type cookie = smc c 0xc4000012 reset_type cookie 0
-
 -- PSCI_SET_SUSPEND_MODE by a core: 0 for platform-coordinated mode, 1 for OS-initiated mode
 abbrev pub set_mode : ℕ → ℕ → Step
 set_mode c mode = smc c 0x8400000f mode 0 0
-
--- PSCI_FEATURES by the boot core
-abbrev pub features : ℕ → Step
-features word = smc 0 0x8400000a word 0 0
 
 -- a core enters: life, number of its start
 abbrev pub enter_by : Cause → ℕ → ℕ → ℕ → Step
@@ -170,10 +158,6 @@ take kind c life number applied stale = record {
 -- of a Down: core, life, number; how many parts were applied, and nothing is stale
 abbrev pub take_down : ℕ → ℕ → ℕ → ℕ → Step
 take_down c life number applied = take kinds.Down c life number applied false
-
--- of a Down, stale
-abbrev pub take_stale : ℕ → ℕ → ℕ → ℕ → Step
-take_stale c life number applied = take kinds.Down c life number applied true
 
 -- Replies -------------------------------------------------------------------------------------
 
@@ -288,10 +272,3 @@ pub record AreAnsweredOn (runs : List (tables.Row BoardValue (List Row))) : Type
       map (λ run. by_values run.given (start_of_life run.given 0) (map (λ r. r.given) run.comes))
       runs
       ≡ map (λ run. map (λ r. r.comes) run.comes) runs
-
--- the same of runs of one board, and of one run
-abbrev pub AreAnsweredAll : BoardValue → List (List Row) → Type 0
-AreAnsweredAll b runs = AreAnsweredOn (map (λ run. b ⇒ run) runs)
-
-abbrev pub AreAnswered : BoardValue → List Row → Type 0
-AreAnswered b rows = AreAnsweredOn (b ⇒ rows ∷ [])

@@ -1,16 +1,14 @@
--- Worked examples of what is counted of the cores below a power domain: boards of height 1, 2 and
--- 3, even and uneven.
+-- Worked examples of counts that are not those of the cores below a power domain, and of what may not
+-- be taken away from them: an uneven board of height 2.
 use Rattle.std.proofs.Common.{◌≡◌, ℕ, zero, suc, ◌<◌, ◌≤◌, List, [], ◌∷◌, length, drop, get_or}
 use Rattle.std.proofs.Common.{refl, ap, arith}
 use Rattle.psci_board.specs.declared.node.Node.{Node}
 use Rattle.psci_board.specs.Board.{size_below}
-use Rattle.psci_board.proofs.Tables.{◌⇒◌, Gives}
 use Rattle.psci_fw_spec.specs.declared.status.Status.{Status}
 use Rattle.psci_fw_spec.specs.declared.status.Status.TheVariants.{On, Off, Pending}
 use Rattle.psci_fw_state.specs.declared.counts.StatusCounts.{StatusCounts}
 use Rattle.psci_fw_state.specs.Counts.{AreCounts, HasDomains, MayRecount, counts_at, counts_below}
-use Rattle.psci_fw_state.specs.Counts.{level_counts, no_cores, one_core, recounted, status_counted}
-use Rattle.psci_fw_state.specs.Counts.{with_counts}
+use Rattle.psci_fw_state.specs.Counts.{level_counts, one_core, with_counts}
 
 -- so many ON, and so many ON_PENDING
 abbrev count : ℕ → ℕ → StatusCounts
@@ -23,28 +21,7 @@ node level place = record { level = level; place = place }
 abbrev cores_are : List Status → ℕ → Status
 cores_are statuses c = get_or statuses c Off
 
--- One core, and several --------------------------------------------------------------------------
-
-of_one : Gives one_core (On ⇒ count 1 0 ∷ Off ⇒ count 0 0 ∷ Pending ⇒ count 0 1 ∷ [])
-of_one = refl
-
-of_none : no_cores ≡ count 0 0
-of_none = refl
-
--- one that is ON comes before any number that are ON_PENDING
-together : Gives status_counted (count 0 0 ⇒ Off ∷ count 0 1 ⇒ Pending ∷ count 0 7 ⇒ Pending
-    ∷ count 1 0 ⇒ On ∷ count 1 7 ⇒ On ∷ [])
-together = refl
-
--- asked on, entered, gone off, and the other way round
-counted_anew : Gives
-    (λ (q : Status × Status). recounted (count 2 1) (one_core q.0) (one_core q.1))
-    ((Off, Pending) ⇒ count 2 2
-    ∷ (Pending, On) ⇒ count 3 0
-    ∷ (On, Off) ⇒ count 1 1
-    ∷ (Pending, Off) ⇒ count 2 0
-    ∷ (On, Pending) ⇒ count 1 2 ∷ [])
-counted_anew = refl
+-- Counted anew -----------------------------------------------------------------------------------
 
 none_to_take_away : MayRecount (count 0 3) (one_core On) (one_core Off) → ⊥
 none_to_take_away h = let e : 1 ≤ 0 = h.on in omega arith
@@ -60,12 +37,6 @@ too_many_pending h = let e : 65536 < 65536 = h.few_pending in omega arith
 
 -- Below a domain ---------------------------------------------------------------------------------
 
--- height 1: three cores below the system, which has no neighbour
-one_level : Gives (counts_below ((3 ∷ []) ∷ []) (cores_are (On ∷ Pending ∷ On ∷ [])))
-    (node 1 0 ⇒ count 2 1 ∷ node 1 1 ⇒ count 0 0 ∷ [])
-unfolding counts_below
-one_level = refl
-
 -- height 2: clusters of one, three and two cores
 abbrev uneven : List (List ℕ)
 uneven = (1 ∷ 3 ∷ 2 ∷ []) ∷ (3 ∷ []) ∷ []
@@ -73,43 +44,10 @@ uneven = (1 ∷ 3 ∷ 2 ∷ []) ∷ (3 ∷ []) ∷ []
 abbrev statuses : ℕ → Status
 statuses = cores_are (Pending ∷ On ∷ Off ∷ Pending ∷ Off ∷ On ∷ [])
 
-two_levels : Gives (counts_below uneven statuses)
-    (node 1 0 ⇒ count 0 1 ∷ node 1 1 ⇒ count 1 1 ∷ node 1 2 ⇒ count 1 0
-    ∷ node 2 0 ⇒ count 2 2 ∷ [])
-unfolding counts_below
-two_levels = refl
-
--- height 3: two groups, of one cluster and of two
-abbrev high : List (List ℕ)
-high = (2 ∷ 1 ∷ 1 ∷ []) ∷ (1 ∷ 2 ∷ []) ∷ (2 ∷ []) ∷ []
-
-abbrev of_high : ℕ → Status
-of_high = cores_are (On ∷ On ∷ Pending ∷ On ∷ [])
-
-three_levels : Gives (counts_below high of_high)
-    (node 1 0 ⇒ count 2 0 ∷ node 1 1 ⇒ count 0 1 ∷ node 1 2 ⇒ count 1 0
-    ∷ node 2 0 ⇒ count 2 0 ∷ node 2 1 ⇒ count 1 1
-    ∷ node 3 0 ⇒ count 3 1 ∷ [])
-unfolding counts_below
-three_levels = refl
-
 -- Kept -------------------------------------------------------------------------------------------
 
 abbrev kept : List (List StatusCounts)
 kept = (count 0 1 ∷ count 1 1 ∷ count 1 0 ∷ []) ∷ (count 2 2 ∷ []) ∷ []
-
--- by level from 1 up, and by place; of no other domain
-found : Gives (λ (q : ℕ × ℕ). counts_at kept q.0 q.1)
-    ((1, 0) ⇒ count 0 1 ∷ (1, 2) ⇒ count 1 0 ∷ (2, 0) ⇒ count 2 2 ∷ (2, 1) ⇒ count 0 0
-    ∷ (3, 0) ⇒ count 0 0 ∷ [])
-found = refl
-
-written : Gives (λ (q : Node × StatusCounts). with_counts kept q.0 q.1)
-    ((node 1 1, count 2 0)
-    ⇒ ((count 0 1 ∷ count 2 0 ∷ count 1 0 ∷ []) ∷ (count 2 2 ∷ []) ∷ [])
-    ∷ (node 2 0, count 3 1)
-    ⇒ ((count 0 1 ∷ count 1 1 ∷ count 1 0 ∷ []) ∷ (count 3 1 ∷ []) ∷ []) ∷ [])
-written = refl
 
 places : (level : ℕ) → 0 < level → level ≤ length uneven
     → length (level_counts kept level) ≡ size_below (drop level uneven)

@@ -169,9 +169,6 @@ acked index kind c life number applied stale = Acked index (record {
 abbrev pub used : Said
 used = Taken takens.Used
 
-abbrev pub old : Said
-old = Taken takens.Old
-
 -- of these events this is said, each after the events before it
 abbrev pub IsSaid : BoardValue → List Event → List Said → Type 0
 IsSaid b events said = reverse (map (λ r. r.said) (run_from b [] events)) ≡ said

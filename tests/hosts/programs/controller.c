@@ -160,9 +160,17 @@ static void lives(void) {
     want("it goes down", PSCI_CTL_SWITCH, deliver(PSCI_FRAME_LEN));
     want("with its cluster", 2, answer.it.many);
     want("which is the second one", 1, answer.it.domains[1].index);
+    frame[11] = 7;
+    want("its generations count, and not its number", PSCI_CTL_SWITCH, deliver(PSCI_FRAME_LEN));
+    frame[14] = frame[24] = 2;
+    want("and a later Down may be less deep", PSCI_CTL_SWITCH, deliver(PSCI_FRAME_LEN));
+    want("as deep as it says", 2, psci_ctl_depth(&place.it, 1, 1));
+    message(1, 3, 1, 1, 2);
+    want("deeper again", PSCI_CTL_SWITCH, deliver(PSCI_FRAME_LEN));
     want("deep", PSCI_CTL_POWER_DOWN, psci_ctl_depth(&place.it, 1, 1));
     want("no such cluster", PSCI_NO_CORE, psci_ctl_depth(&place.it, 1, 2));
     want("no such level", PSCI_NO_CORE, psci_ctl_depth(&place.it, 3, 0));
+    want("not woken by the start before", PSCI_CTL_NOTHING, wake(3, 0));
     want("it is woken", PSCI_CTL_START, wake(3, 1));
     want("by its next start", 1 << 16 | 2 << 8 | PSCI_CAUSE_WAKE, found(3));
     want("woken too late", PSCI_CTL_NOTHING, wake(3, 1));
@@ -239,6 +247,13 @@ static void not_loaded(void) {
     want("a start too many", PSCI_SAVED_STARTS, load_with(6, 3 * 4));
     want("no boot", PSCI_SAVED_STARTS, load_with(3, 3));
     want("too deep", PSCI_SAVED_DEPTH, load_with(13, 4));
+    words[WORDS] = 4;
+    want("a start too many, and too deep", PSCI_SAVED_STARTS, load_with(6, 3 * 4));
+    words[WORDS] = 0, words[1] ^= 1;
+    want("another format, and a word too many", PSCI_SAVED_LENGTH, psci_ctl_load(&place.it, words + 1, WORDS + 1));
+    words[3] ^= 1;
+    want("another format, and another life", PSCI_SAVED_FORMAT, psci_ctl_load(&place.it, words + 1, WORDS));
+    words[1] ^= 1, words[3] ^= 1;
     want("still core 3's second start", 1 << 16 | 2 << 8 | PSCI_CAUSE_WAKE, found(3));
 }
 
@@ -249,6 +264,35 @@ static void loading(void) {
     want("it is woken again", PSCI_CTL_START, wake(3, 1));
     message(1, 3, 1, 2, 2);
     want("its cluster counts two starts", PSCI_CTL_SWITCH, deliver(PSCI_FRAME_LEN));
+    psci_ctl_close(&place.it);
+}
+
+/* Each cause is saved and loaded, and a life that is not the first, and none. */
+static void causes(void) {
+    open_text(small);
+    wake(1, 0), reset(2), message(2, 3, 1, 0, 0), deliver(PSCI_FRAME_LEN);
+    want("saved", 0, save(WORDS));
+    want("by its boot", 4, words[4]);
+    want("by a wake-up", 6, words[5]);
+    want("by a reset", 7, words[6]);
+    want("asked on", 5, words[7]);
+    open_text(small);
+    want("loaded", 0, psci_ctl_load(&place.it, words + 1, WORDS));
+    want("by its boot", 1 << 16 | 1 << 8 | PSCI_CAUSE_BOOT, found(0));
+    want("by a wake-up", 1 << 16 | 1 << 8 | PSCI_CAUSE_WAKE, found(1));
+    want("by a reset", 1 << 16 | 1 << 8 | PSCI_CAUSE_RESET, found(2));
+    message(4, 0, 1, 1, 0), deliver(PSCI_FRAME_LEN);
+    want("saved in life 2", 0, save(WORDS));
+    open_text(small);
+    want("loaded in life 1", 0, psci_ctl_load(&place.it, words + 1, WORDS));
+    want("goes on in life 2", 2, psci_ctl_life(&place.it));
+    message(3, 0, 2, 1, 0);
+    want("the end", PSCI_CTL_OFF, deliver(PSCI_FRAME_LEN));
+    want("none was started", 0, psci_ctl_starts(&place.it, 0));
+    want("saved then", 0, save(WORDS));
+    open_text(small);
+    want("loaded in a life", 0, psci_ctl_load(&place.it, words + 1, WORDS));
+    want("which ends", 0, psci_ctl_life(&place.it));
     psci_ctl_close(&place.it);
 }
 
@@ -267,5 +311,6 @@ int main(void) {
     saving();
     not_loaded();
     loading();
+    causes();
     return failed;
 }

@@ -107,11 +107,126 @@ static void not_loaded(void) {
     want("a domain too deep", PSCI_GUEST_DEPTH, load_with(DOMAINS, 4));
     want("no status", PSCI_GUEST_ROW, load_with(ROWS, 3));
     want("no opening, and an address", PSCI_GUEST_ROW, load_with(ROWS + 2, 1));
+    want("no opening, and a context", PSCI_GUEST_ROW, load_with(ROWS + 3, 1));
     want("a message of no kind", PSCI_GUEST_MESSAGE, load_with(SLOTS, 5));
     want("an opening for a core that runs", PSCI_GUEST_VALUES, load_with(ROWS + 1, 1));
     want("the controller's life too late", PSCI_SAVED_LIFE, load_with(FIRMWARE + 2, 3));
     want("a domain of it too deep", PSCI_SAVED_DEPTH, load_with(WORDS - 1, 4));
     unchanged();
+}
+
+/* Words of a firmware, made from those that were saved: the power controller's stay. */
+enum { GRANTED = DOMAINS, CONFIRMED = 20 };
+static uint64_t made[WORDS];
+
+/* No core has entered: core 0 is pending at the boot address, and all beside its path is off. */
+static void fresh(void) {
+    static const uint64_t off = (uint64_t)1 << 32;
+    const uint64_t words[] = {0, 0, 0, 0, 0, off, 0, off, 0, off, 0, 0, 3, 3, 3, 0, 3, 0, 0, 3, 3, 3, 0, 3, 0,
+                              2, 1, 0x40000000, 0, 1, 0, 0, 0, 1, 0, 0, 0, 1, 0, 0, 0};
+    memcpy(made, saved, sizeof made);
+    memset(made + 2, 0, (FIRMWARE - 2) * sizeof *made);
+    memcpy(made + 2, words, sizeof words);
+}
+
+/* Core 0 has entered, in life 1. */
+static void runs(void) {
+    fresh();
+    made[2] = 1, made[CORES + 1] = 1;
+    memset(made + ROWS, 0, 4 * sizeof *made);
+}
+
+/* It is suspended: powered down itself, its cluster in retention, the system in standby. */
+static void sleeps(void) {
+    runs();
+    made[CORES] = 0x40000123, made[ROWS + 1] = 1, made[ROWS + 2] = 0x40002000, made[ROWS + 3] = 9;
+    made[GRANTED] = 3, made[GRANTED + 4] = 2, made[GRANTED + 6] = 1;
+}
+
+/* Core 3 is pending, with its opening. */
+static void pends(void) {
+    runs();
+    made[CORES + 6] = 0, made[ROWS + 12] = 2, made[ROWS + 13] = 1, made[ROWS + 14] = 0x40001000, made[ROWS + 15] = 7;
+    for (int at = 3; at < 6; at += 2)
+        made[GRANTED + at] = made[CONFIRMED + at] = 0;
+}
+
+/* The message of a slot: the system's is the first, then come those of the cores. */
+static void send(int slot, uint64_t kind, uint64_t core, uint64_t of_life, uint64_t number) {
+    uint64_t *at = made + SLOTS + 12 * slot;
+    at[0] = kind, at[1] = core, at[2] = of_life, at[3] = number;
+    if (kind == PSCI_MESSAGE_DOWN)
+        at[4] = 3, at[5] = 5, at[6] = 2, at[7] = 6;
+}
+
+/* Loads them with their sum; what is loaded is saved as the same words. */
+static uint32_t load_made(void) {
+    uint64_t words[WORDS];
+    made[1] = sum_of(made + 2, FIRMWARE - 2);
+    uint32_t loaded = psci_guest_load(&guest, made, WORDS);
+    must_save(&guest, words);
+    if (!loaded)
+        want("saved as it was loaded", 0, memcmp(words, made, sizeof made));
+    return loaded;
+}
+
+/* What a firmware keeps at once, and what none does. */
+static void values(void) {
+#define KEPT(name, base, change) base(), change, want(name, 0, load_made())
+#define NONE(name, base, change) base(), change, want(name, PSCI_GUEST_VALUES, load_made())
+    KEPT("no core has entered", fresh, made[2] = 0);
+    want("no status is told then", PSCI_NO_LIFE, psci_guest_status(&guest, 0, 0));
+    NONE("in OS-initiated mode then", fresh, made[4] = 1);
+    NONE("halting then", fresh, made[3] = 1);
+    NONE("started then", fresh, made[CORES + 7] = 5);
+    NONE("boots at another address", fresh, made[ROWS + 2] = 0x40000004);
+    NONE("boots with a context", fresh, made[ROWS + 3] = 7);
+    NONE("off, not confirmed", fresh, made[CONFIRMED + 3] = 0);
+    NONE("the system's message then", fresh, send(0, PSCI_MESSAGE_OFF, 0, 0, 0));
+    NONE("a core's message then", fresh, send(4, PSCI_MESSAGE_START, 3, 0, 0));
+    KEPT("core 0 runs", runs, made[2] = 1);
+    want("the system is on", PSCI_STATUS_ON, psci_guest_status(&guest, 2, 0));
+    want("its other cluster off", PSCI_STATUS_OFF, psci_guest_status(&guest, 1, 1));
+    KEPT("in OS-initiated mode", runs, made[4] = 1);
+    KEPT("in the last life", runs, made[2] = 2);
+    KEPT("started as often as may be", runs, made[CORES + 7] = 200);
+    NONE("started more often", runs, made[CORES + 7] = 201);
+    KEPT("messages", runs, (send(0, PSCI_MESSAGE_RESET, 1, 1, 0), send(2, PSCI_MESSAGE_DOWN, 1, 1, 3)));
+    KEPT("halting", runs, made[3] = 1);
+    KEPT("halting, and a core on its way", pends, made[3] = 1);
+    psci_guest_reset(&guest, 3, &turn);
+    want("it enters", 3, turn.start.core);
+    want("and stops at once", PSCI_STOP, turn.entry.what);
+    must_save(&guest, made);
+    want("on its way still", 0, made[CORES + 6]);
+    want("to no opening", 0, made[ROWS + 13]);
+    KEPT("halting, with an opening", runs, (made[3] = 1, made[ROWS + 1] = 1));
+    NONE("halting, and granted what it asks not", runs, (made[3] = 1, made[GRANTED] = 1));
+    NONE("runs with an opening", runs, made[ROWS + 1] = 1);
+    NONE("runs, and is granted standby", runs, made[GRANTED] = 1);
+    NONE("its status is off", runs, made[ROWS] = 1);
+    NONE("off, with an opening", runs, (made[ROWS + 13] = 1, made[ROWS + 14] = 0x40001000));
+    NONE("off, and granted retention", runs, (made[GRANTED + 1] = 2, made[CONFIRMED + 1] = 0));
+    NONE("OS-initiated, all off below retention", runs, (made[4] = 1, made[GRANTED + 5] = 2, made[CONFIRMED + 5] = 0));
+    KEPT("core 3 is pending", pends, made[2] = 1);
+    want("so is its cluster", PSCI_STATUS_PENDING, psci_guest_status(&guest, 1, 1));
+    NONE("pending without an opening", pends, (made[ROWS + 13] = made[ROWS + 14] = made[ROWS + 15] = 0));
+    NONE("pending and off", pends, made[CORES + 6] = (uint64_t)1 << 32);
+    NONE("pending and suspended", pends, made[CORES + 6] = 1);
+    KEPT("core 0 sleeps", sleeps, made[2] = 1);
+    want("the system is in standby", 1, made[GRANTED + 6]);
+    NONE("too deep a system", sleeps, made[GRANTED + 6] = 2);
+    NONE("too light a system", sleeps, made[GRANTED + 6] = 0);
+    NONE("too light a cluster", sleeps, made[GRANTED + 4] = 1);
+    KEPT("that light, OS-initiated", sleeps, (made[4] = 1, made[GRANTED + 4] = 1, made[GRANTED + 6] = 0));
+    NONE("sleeps without an opening", sleeps, (made[ROWS + 1] = made[ROWS + 2] = made[ROWS + 3] = 0));
+    NONE("asks above the system", sleeps, (made[CORES] = 0x40003333, made[GRANTED + 4] = made[GRANTED + 6] = 3));
+    KEPT("asks all of the board", sleeps, (made[CORES] = 0x40000333, made[GRANTED + 4] = made[GRANTED + 6] = 3));
+    KEPT("in standby", runs, made[CORES] = made[GRANTED] = 1);
+    NONE("in standby with an opening", runs, made[CORES] = made[GRANTED] = made[ROWS + 1] = 1);
+#undef KEPT
+#undef NONE
+    want("loaded again", 0, psci_guest_load(&guest, saved, WORDS));
 }
 
 /* The other one goes on as this one does. */
@@ -169,6 +284,7 @@ int main(void) {
     empty_place();
     saving();
     not_loaded();
+    values();
     loading();
     little_memory();
     free(memory);

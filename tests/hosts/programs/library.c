@@ -392,6 +392,12 @@ static void refusals(void) {
     no_such_node("without a life", 0, 4);
     want("no such core", PSCI_NO_CORE, enter(4, 1, 1, PSCI_CAUSE_BOOT));
     want("no such life", PSCI_NO_LIFE, enter(0, 4, 1, PSCI_CAUSE_BOOT));
+    want("life 0", PSCI_NO_LIFE, enter(0, 0, 1, PSCI_CAUSE_BOOT));
+    want("neither core nor life", PSCI_NO_CORE, enter(4, 4, 1, PSCI_CAUSE_BOOT));
+    want("no core that calls", PSCI_NO_CORE, smc(4, 0x84000000, 0, 0, 0));
+    want("a start beyond the limit", PSCI_OLD_START, enter(0, 1, 4, PSCI_CAUSE_BOOT));
+    want("start 0", PSCI_OLD_START, enter(0, 1, 0, PSCI_CAUSE_BOOT));
+    want("none has entered", 0, psci_life(&place.it));
     want("no such cause", PSCI_NO_CAUSE, enter(0, 1, 1, 4));
     want("enters", PSCI_ENTER, enter(0, 1, 1, PSCI_CAUSE_BOOT));
     want("at its entry point", 0x40000000, answer.it.address);
@@ -403,6 +409,11 @@ static void refusals(void) {
     want("its hardware", PSCI_HW_ON, psci_hw(&place.it, 0, 0));
     want("its grant", 0, psci_granted(&place.it, 0, 0));
     want("a used start", PSCI_OLD_START, enter(0, 1, 1, PSCI_CAUSE_BOOT));
+    want("of no life", PSCI_NO_LIFE, enter(0, 0, 1, PSCI_CAUSE_BOOT));
+    want("it runs on", true, psci_running(&place.it, 0));
+    want("a core that is off is started", PSCI_STOP, enter(2, 1, 3, PSCI_CAUSE_RESET));
+    want("it parks, and stays off", PSCI_STATUS_OFF, psci_status(&place.it, 0, 2));
+    want("by its last start", 3, psci_known(&place.it, 2));
     want("not running", PSCI_NOT_RUNNING, smc(1, 0x84000000, 0, 0, 0));
     want("on", PSCI_RETURN, smc(0, 0xc4000003, 0x1, 0x40001000, 7));
     want("its message", 2, answer.it.message.some ? answer.it.message.bytes[2] : 0);
@@ -415,6 +426,80 @@ static void refusals(void) {
     want("a message", PSCI_FRAME_NOT_AN_ACK, take_changed(2, 0x02, PSCI_FRAME_LEN));
     want("used", PSCI_USED, take_changed(12, 1, PSCI_FRAME_LEN));
     want("old", PSCI_OLD, take_changed(12, 1, PSCI_FRAME_LEN));
+}
+
+/* Who runs in a halting life, and what is granted and on while none asks. */
+static void beside_calls(void) {
+    want("opened", PSCI_OPENED, open_text("((1 1) (1 1))" REST));
+    want("the system, not granted", 0, psci_granted(&place.it, 3, 0));
+    enter(0, 1, 1, PSCI_CAUSE_BOOT);
+    want("SYSTEM_SUSPEND", PSCI_STOP, smc(0, 0xc400000e, 0x40002000, 8, 0));
+    want("the system, powered down", 3, psci_granted(&place.it, 3, 0));
+    want("not yet", PSCI_HW_ON, psci_hw(&place.it, 3, 0));
+    want("used", PSCI_USED, take_changed(12, 4, PSCI_FRAME_LEN));
+    want("and now it is", PSCI_HW_OFF, psci_hw(&place.it, 3, 0));
+    want("woken", PSCI_ENTER, enter(0, 1, 2, PSCI_CAUSE_WAKE));
+    want("the system on its path", 0, psci_granted(&place.it, 3, 0));
+    smc(0, 0x84000002, 0, 0, 0);
+    want("the core that goes off is on", PSCI_STATUS_ON, psci_status(&place.it, 3, 0));
+    want("used", PSCI_USED, take_changed(12, 4, PSCI_FRAME_LEN));
+    want("all are off", PSCI_STATUS_OFF, psci_status(&place.it, 3, 0));
+    want("parks in the next life", PSCI_STOP, enter(2, 2, 1, PSCI_CAUSE_WAKE));
+    want("no more in the life before", PSCI_OLD_START, enter(3, 1, 3, PSCI_CAUSE_WAKE));
+    want("the boot core's path in it", 0, psci_granted(&place.it, 0, 0));
+    want("which is on its way", PSCI_STATUS_PENDING, psci_status(&place.it, 3, 0));
+    make(do_close);
+    want("opened", PSCI_OPENED, open_text(small));
+    enter(0, 1, 1, PSCI_CAUSE_BOOT);
+    for (uint16_t other = 1; other < 4; other++) {
+        smc(0, 0xc4000003, other == 1 ? 1 : 0x100 + other - 2, 0x40001000, 7);
+        want("entered", PSCI_ENTER, enter(other, 1, 1, PSCI_CAUSE_ON));
+    }
+    want("core 1 goes off", PSCI_STOP, smc(1, 0x84000002, 0, 0, 0));
+    frame.it = answer.it.message;
+    want("SYSTEM_OFF", PSCI_STOP, smc(0, 0x84000008, 0, 0, 0));
+    want("its caller stopped", false, psci_running(&place.it, 0));
+    want("core 2 runs", true, psci_running(&place.it, 2));
+    want("until it calls", PSCI_STOP, smc(2, 0x84000000, 0, 0, 0));
+    want("and stopped then", false, psci_running(&place.it, 2));
+    want("core 3 enters", PSCI_STOP, enter(3, 1, 2, PSCI_CAUSE_RESET));
+    want("and stops at once", false, psci_running(&place.it, 3));
+    answer.it.message = frame.it;
+    want("what was sent before", PSCI_USED, take_changed(12, 1, PSCI_FRAME_LEN));
+    want("powers down", PSCI_HW_OFF, psci_hw(&place.it, 0, 1));
+    want("and is off", PSCI_STATUS_OFF, psci_status(&place.it, 0, 1));
+    make(do_close);
+}
+
+/* Numbers of starts have 32 bits: a board that allows so many, and cores that are at this limit. */
+static void long_starts(void) {
+    static const char *const text_of = "(2 2) exec 0x40000000-0x40100000 boot 0x40000000 starts 2147483651 lives 3";
+    const uint32_t limit = 2147483651;
+    want("opened", PSCI_OPENED, open_text(text_of));
+    want("by start 65536", PSCI_ENTER, enter(0, 1, 65536, PSCI_CAUSE_BOOT));
+    want("in standby", PSCI_STOP, smc(0, 0xc4000001, 0x1, 0, 0));
+    want("resumes by the next one", PSCI_RESUME, enter(0, 1, 65537, PSCI_CAUSE_WAKE));
+    want("in standby again", PSCI_STOP, smc(0, 0xc4000001, 0x1, 0, 0));
+    want("by another one it parks", PSCI_STOP, enter(0, 1, 65537 + 65537, PSCI_CAUSE_WAKE));
+    want("opened anew", PSCI_OPENED, open_text(text_of));
+    enter(0, 1, 1, PSCI_CAUSE_BOOT);
+    want("on", PSCI_RETURN, smc(0, 0xc4000003, 0x101, 0x40000000, 0));
+    want("entered", PSCI_ENTER, enter(3, 1, 1, PSCI_CAUSE_ON));
+    want("in standby", PSCI_STOP, smc(3, 0xc4000001, 0x1, 0, 0));
+    want("does not resume in the next life", PSCI_STOP, enter(3, 2, 2, PSCI_CAUSE_WAKE));
+    want("the next life", PSCI_ENTER, enter(0, 2, limit, PSCI_CAUSE_BOOT));
+    want("a suspend at the limit", PSCI_RETURN, smc(0, 0xc4000001, 0x00010003, 0x40000000, 0));
+    want("succeeds at once", 0, (uint32_t)answer.it.code);
+    want("SYSTEM_SUSPEND at the limit", PSCI_RETURN, smc(0, 0xc400000e, 0x40000000, 0, 0));
+    want("is denied", (uint32_t)-3, (uint32_t)answer.it.code);
+    want("on", PSCI_RETURN, smc(0, 0xc4000003, 0x101, 0x40000000, 0));
+    want("enters by the last start", PSCI_ENTER, enter(3, 2, limit, PSCI_CAUSE_ON));
+    want("goes off", PSCI_STOP, smc(3, 0x84000002, 0, 0, 0));
+    want("used", PSCI_USED, take_changed(12, 2, PSCI_FRAME_LEN));
+    want("on again at the limit", PSCI_RETURN, smc(0, 0xc4000003, 0x101, 0x40000000, 0));
+    want("fails", (uint32_t)-6, (uint32_t)answer.it.code);
+    want("a start beyond it", PSCI_OLD_START, enter(1, 2, limit + 1, PSCI_CAUSE_ON));
+    make(do_close);
 }
 
 /* A poller tells of the firmware that it was opened for, until it is opened anew or closed. */
@@ -550,6 +635,9 @@ int main(void) {
     boards();
     stops();
     frames();
+    pool_give(memory, size);
+    beside_calls();
+    long_starts();
     pool_give(memory, size);
     pollers();
     pool_give(memory, pool_size(4));
