@@ -268,6 +268,11 @@ static void stops(void) {
     want("opened", PSCI_OPENED, open_text(small));
     enter(0, 1, 1, PSCI_CAUSE_BOOT);
     want("a core that runs", 0, stop_of(0, 0xc4000001));
+    smc(0, 0xc4000003, 0x001, 0x40001000, 7);
+    want("by a Start", 0, stop_of(1, 0xc4000001));
+    enter(1, 1, 1, PSCI_CAUSE_ON);
+    smc(1, 0x84000002, 0, 0, 0);
+    take_changed(12, 1, PSCI_FRAME_LEN);
     want("all go down", PSCI_STOP, smc(0, 0xc4000001, 0x02010333, 0x40000000, 0));
     want("by CPU_SUSPEND of 64 bits", 0x33301, stop_of(0, 0xc4000001));
     want("by that of 32 bits", 0x33301, stop_of(0, 0x84000001));
@@ -320,10 +325,67 @@ static void frames(void) {
     NONE("five parts", fields.count = 5);
     NONE("no core in a byte", (fields.count = 1, fields.core = 256));
     NONE("a depth of 4", (fields.core = 3, fields.parts[0].depth = 4));
+    NONE("a part deeper than the one below it", (fields.count = 2, fields.parts[0].depth = 1));
 #undef NONE
-    fields.parts[0].depth = 3;
+    fields.count = 1, fields.parts[0].depth = 3;
     make(do_encode);
     want("a frame again", 1, frame.it.some);
+    make(do_close);
+}
+
+/* What is read of cores that run, are pending or off, and of their clusters; and of a life that ends. */
+static void readers(void) {
+    want("opened", PSCI_OPENED, open_text(small));
+    enter(0, 1, 1, PSCI_CAUSE_BOOT);
+    smc(0, 0xc4000003, 0x001, 0x40001000, 7);
+    want("core 1 is asked on", PSCI_STATUS_PENDING, psci_status(&place.it, 0, 1));
+    want("its hardware", PSCI_HW_ON, psci_hw(&place.it, 0, 1));
+    want("its grant", 0, psci_granted(&place.it, 0, 1));
+    want("that of the other cluster", 3, psci_granted(&place.it, 1, 1));
+    want("no start of its is known", 0, psci_known(&place.it, 1));
+    want("one of core 0 is", 1, psci_known(&place.it, 0));
+    want("it does not run", 0, psci_running(&place.it, 1));
+    want("core 0 does", 1, psci_running(&place.it, 0));
+    want("it goes on", 0, psci_halting(&place.it));
+    want("off", PSCI_STOP, smc(0, 0x84000008, 0, 0, 0));
+    want("it halts", 1, psci_halting(&place.it));
+    make(do_close);
+}
+
+/* A machine whose last core boots: what is asked beside a call, where a node is, and a poll in its words. Its cluster has
+ * a state in standby, one in retention, and others that power down. */
+static void machines(void) {
+    static const struct psci_board given = {
+        .height = 2, .starts = 3, .lives = 3, .boot = 0x40000000, .many_ranges = 1,
+        .ranges = {{0x40000000, 0x40100000}}, .levels = {{2, {2, 2}}, {1, {2}}},
+    };
+    static const struct psci_machine machine = {
+        .levels = 2, .functions = 0xff, .many_mpidrs = 4, .many_rows = 2, .many_resets = 1, .standby = {0, 1},
+        .retention = {0, 1}, .system = {1, 3, 1}, .resets = {0x80000007},
+        .rows = {{0x01010001, UINT32_MAX, {1, 1}}, {0x01010002, UINT32_MAX, {1, 2}}},
+        .mpidrs = {0x10000, 0x10001, 0x10100, 0x10101},
+    };
+    for (uint32_t state = 1; state <= 2; state++) {
+        want("a machine", PSCI_OPENED, psci_open_machine(&place.it, &given, &machine, 0x10101));
+        enter(0, 1, 1, PSCI_CAUSE_BOOT);
+        want("suspended", PSCI_STOP, smc(0, 0xc4000001, 0x01010000 + state, 0x40000000, 7));
+        want("with its cluster", 0x30000 + (state << 12) + 1, stop_of(0, 0xc4000001));
+        want("states are asked", PSCI_ASKS_STATES, answer.it.asked.what);
+        want("that of the cluster", state, answer.it.asked.states[1]);
+    }
+    want("a machine again", PSCI_OPENED, psci_open_machine(&place.it, &given, &machine, 0x10101));
+    want("its first core", 3, psci_place_of(&place.it, 0, 0));
+    want("its first cluster", 1, psci_place_of(&place.it, 1, 0));
+    want("the system", 0, psci_place_of(&place.it, 2, 0));
+    want("a poller", PSCI_OPENED, open_poller());
+    enter(0, 1, 1, PSCI_CAUSE_BOOT);
+    want("the boot core is on", PSCI_STATUS_ON, poll_core(0x10101));
+    want("another one is not", PSCI_STATUS_OFF, poll_core(0x10000));
+    want("no core of the machine", (uint32_t)-2, (uint32_t)poll_core(0));
+    want("a reset of the vendor", PSCI_STOP, smc(0, 0xc4000012, 0x80000007, 0, 0));
+    want("is asked", PSCI_ASKS_RESET, answer.it.asked.what);
+    want("by its type", 0x80000007, answer.it.asked.reset);
+    make(do_close_poller);
     make(do_close);
 }
 
@@ -549,6 +611,8 @@ int main(void) {
     pool_give(memory, size);
     boards();
     stops();
+    readers();
+    machines();
     frames();
     pool_give(memory, size);
     pollers();
