@@ -309,6 +309,13 @@ static void frames(void) {
     want("the second", 1, fields.parts[1].level == 1 && fields.parts[1].depth == 2
         && fields.parts[1].generation == 19);
     want("no third", 0, fields.parts[2].level + fields.parts[2].depth + fields.parts[2].generation);
+    fields.count = 3, fields.parts[2].level = 2, fields.parts[2].depth = 1, fields.parts[2].generation = 20;
+    make(do_encode);
+    fields = (struct psci_message){0};
+    make(do_decode);
+    want("of three parts", 3, fields.count);
+    want("the third", 1, fields.parts[2].level == 2 && fields.parts[2].depth == 1 && fields.parts[2].generation == 20);
+    want("no fourth", 0, fields.parts[3].level + fields.parts[3].depth + fields.parts[3].generation);
     length = 52;
     make(do_decode);
     want("a short frame", PSCI_FRAME_LENGTH, code);
@@ -352,36 +359,52 @@ static void readers(void) {
     make(do_close);
 }
 
-/* A machine whose last core boots: what is asked beside a call, where a node is, and a poll in its words. Its cluster has
- * a state in standby, one in retention, and others that power down. */
+/* A machine whose last core boots: what its calls are to the firmware, what they ask besides, where a node is, and a poll
+ * in its words. Its cluster has a state in standby, two in retention, and others that power down. */
 static void machines(void) {
     static const struct psci_board given = {
         .height = 2, .starts = 3, .lives = 3, .boot = 0x40000000, .many_ranges = 1,
         .ranges = {{0x40000000, 0x40100000}}, .levels = {{2, {2, 2}}, {1, {2}}},
     };
     static const struct psci_machine machine = {
-        .levels = 2, .functions = 0xff, .many_mpidrs = 4, .many_rows = 2, .many_resets = 1, .standby = {0, 1},
-        .retention = {0, 1}, .system = {1, 3, 1}, .resets = {0x80000007},
-        .rows = {{0x01010001, UINT32_MAX, {1, 1}}, {0x01010002, UINT32_MAX, {1, 2}}},
+        .levels = 2, .functions = 0xff, .many_mpidrs = 4, .many_rows = 4, .many_resets = 1, .standby = {0, 1},
+        .retention = {0, 2}, .system = {1, 4, 1}, .resets = {0x80000007},
+        .rows = {{0x01010001, UINT32_MAX, {1, 1}}, {0x01010002, UINT32_MAX, {1, 2}}, {0x01010003, UINT32_MAX, {1, 3}},
+                 {0x01010100, 0xffffff00, {1, 4}}},
         .mpidrs = {0x10000, 0x10001, 0x10100, 0x10101},
     };
-    for (uint32_t state = 1; state <= 2; state++) {
+    static const struct { uint32_t word, state, depth; } words[] = {
+        {0x01010001, 1, 1}, {0x01010002, 2, 2}, {0x01010003, 3, 2}, {0x010101ff, 4, 3}};
+    struct psci_machine more = machine;
+    more.many_rows = PSCI_MOST_ROWS + 1;
+    want("a row too many", PSCI_MACHINE_NO_ROOM, psci_open_machine(&place.it, &given, &more, 0x10101));
+    for (size_t at = 0; at < sizeof words / sizeof *words; at++) {
         want("a machine", PSCI_OPENED, psci_open_machine(&place.it, &given, &machine, 0x10101));
         enter(0, 1, 1, PSCI_CAUSE_BOOT);
-        want("suspended", PSCI_STOP, smc(0, 0xc4000001, 0x01010000 + state, 0x40000000, 7));
-        want("with its cluster", 0x30000 + (state << 12) + 1, stop_of(0, 0xc4000001));
+        if (words[at].state == 3) {
+            want("the second in retention", PSCI_RETURN, smc(0, 0xc4000001, words[at].word, 0x40000000, 7));
+            want("is not coordinated by the platform", (uint32_t)-2, (uint32_t)answer.it.code);
+            want("nor asked", PSCI_ASKS_NOTHING, answer.it.asked.what);
+            smc(0, 0x8400000f, 1, 0, 0);
+        }
+        want("suspended", PSCI_STOP, smc(0, 0xc4000001, words[at].word, 0x40000000, 7));
+        want("with its cluster", 0x30001 + (words[at].depth << 12), stop_of(0, 0xc4000001));
         want("states are asked", PSCI_ASKS_STATES, answer.it.asked.what);
-        want("that of the cluster", state, answer.it.asked.states[1]);
+        want("that of the cluster", words[at].state, answer.it.asked.states[1]);
     }
     want("a machine again", PSCI_OPENED, psci_open_machine(&place.it, &given, &machine, 0x10101));
     want("its first core", 3, psci_place_of(&place.it, 0, 0));
     want("its first cluster", 1, psci_place_of(&place.it, 1, 0));
     want("the system", 0, psci_place_of(&place.it, 2, 0));
+    want("the MPIDR of its last core", 0x10000, psci_mpidr_of(&place.it, 3));
+    want("and its number", 3, psci_core_of(&place.it, 0x10000));
     want("a poller", PSCI_OPENED, open_poller());
     enter(0, 1, 1, PSCI_CAUSE_BOOT);
     want("the boot core is on", PSCI_STATUS_ON, poll_core(0x10101));
     want("another one is not", PSCI_STATUS_OFF, poll_core(0x10000));
     want("no core of the machine", (uint32_t)-2, (uint32_t)poll_core(0));
+    want("it is asked on", PSCI_RETURN, smc(0, 0xc4000003, 0x10000, 0x40001000, 7));
+    want("by its number", 3, answer.it.message.bytes[3]);
     want("a reset of the vendor", PSCI_STOP, smc(0, 0xc4000012, 0x80000007, 0, 0));
     want("is asked", PSCI_ASKS_RESET, answer.it.asked.what);
     want("by its type", 0x80000007, answer.it.asked.reset);
@@ -594,6 +617,7 @@ static void largest_board(void) {
     want("woken again", PSCI_ENTER, enter(0, 1, 3, PSCI_CAUSE_WAKE));
     want("reset", PSCI_STOP, smc(0, 0x84000009, 0, 0, 0));
     want("the next life", PSCI_ENTER, enter(0, 2, 1, PSCI_CAUSE_BOOT));
+    want("is life 2", 2, psci_life(&place.it));
     make(do_close);
 }
 
