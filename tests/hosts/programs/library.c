@@ -359,27 +359,29 @@ static void readers(void) {
     make(do_close);
 }
 
-/* A machine whose last core boots: what its calls are to the firmware, what they ask besides, where a node is, and a poll
- * in its words. Its cluster has a state in standby, two in retention, and others that power down. */
+/* A machine whose last core boots. Its cluster has a state in standby, two in retention, and others that power down. */
+static const struct psci_board clusters = {
+    .height = 2, .starts = 3, .lives = 3, .boot = 0x40000000, .many_ranges = 1,
+    .ranges = {{0x40000000, 0x40100000}}, .levels = {{2, {2, 2}}, {1, {2}}},
+};
+static const struct psci_machine plain_machine = {
+    .levels = 2, .functions = 0xff, .many_mpidrs = 4, .many_rows = 4, .many_resets = 3, .standby = {0, 1},
+    .retention = {0, 2}, .system = {1, 4, 1}, .resets = {0x80000005, 0x80000006, 0x80000007},
+    .rows = {{0x01010001, UINT32_MAX, {1, 1}}, {0x01010002, UINT32_MAX, {1, 2}}, {0x01010003, UINT32_MAX, {1, 3}},
+             {0x01010100, 0xffffff00, {1, 4}}},
+    .mpidrs = {0x10000, 0x10001, 0x10100, 0x10101},
+};
+
+static uint32_t open_machine(const struct psci_board *given, const struct psci_machine *machine, uint64_t boot) {
+    return psci_open_machine(&place.it, given, machine, boot);
+}
+
+/* What its calls are to the firmware, what they ask besides, where a node is, and a poll in its words. */
 static void machines(void) {
-    static const struct psci_board given = {
-        .height = 2, .starts = 3, .lives = 3, .boot = 0x40000000, .many_ranges = 1,
-        .ranges = {{0x40000000, 0x40100000}}, .levels = {{2, {2, 2}}, {1, {2}}},
-    };
-    static const struct psci_machine machine = {
-        .levels = 2, .functions = 0xff, .many_mpidrs = 4, .many_rows = 4, .many_resets = 1, .standby = {0, 1},
-        .retention = {0, 2}, .system = {1, 4, 1}, .resets = {0x80000007},
-        .rows = {{0x01010001, UINT32_MAX, {1, 1}}, {0x01010002, UINT32_MAX, {1, 2}}, {0x01010003, UINT32_MAX, {1, 3}},
-                 {0x01010100, 0xffffff00, {1, 4}}},
-        .mpidrs = {0x10000, 0x10001, 0x10100, 0x10101},
-    };
     static const struct { uint32_t word, state, depth; } words[] = {
         {0x01010001, 1, 1}, {0x01010002, 2, 2}, {0x01010003, 3, 2}, {0x010101ff, 4, 3}};
-    struct psci_machine more = machine;
-    more.many_rows = PSCI_MOST_ROWS + 1;
-    want("a row too many", PSCI_MACHINE_NO_ROOM, psci_open_machine(&place.it, &given, &more, 0x10101));
     for (size_t at = 0; at < sizeof words / sizeof *words; at++) {
-        want("a machine", PSCI_OPENED, psci_open_machine(&place.it, &given, &machine, 0x10101));
+        want("a machine", PSCI_OPENED, open_machine(&clusters, &plain_machine, 0x10101));
         enter(0, 1, 1, PSCI_CAUSE_BOOT);
         if (words[at].state == 3) {
             want("the second in retention", PSCI_RETURN, smc(0, 0xc4000001, words[at].word, 0x40000000, 7));
@@ -392,7 +394,7 @@ static void machines(void) {
         want("states are asked", PSCI_ASKS_STATES, answer.it.asked.what);
         want("that of the cluster", words[at].state, answer.it.asked.states[1]);
     }
-    want("a machine again", PSCI_OPENED, psci_open_machine(&place.it, &given, &machine, 0x10101));
+    want("a machine again", PSCI_OPENED, open_machine(&clusters, &plain_machine, 0x10101));
     want("its first core", 3, psci_place_of(&place.it, 0, 0));
     want("its first cluster", 1, psci_place_of(&place.it, 1, 0));
     want("the system", 0, psci_place_of(&place.it, 2, 0));
@@ -403,12 +405,57 @@ static void machines(void) {
     want("the boot core is on", PSCI_STATUS_ON, poll_core(0x10101));
     want("another one is not", PSCI_STATUS_OFF, poll_core(0x10000));
     want("no core of the machine", (uint32_t)-2, (uint32_t)poll_core(0));
-    want("it is asked on", PSCI_RETURN, smc(0, 0xc4000003, 0x10000, 0x40001000, 7));
-    want("by its number", 3, answer.it.message.bytes[3]);
-    want("a reset of the vendor", PSCI_STOP, smc(0, 0xc4000012, 0x80000007, 0, 0));
-    want("is asked", PSCI_ASKS_RESET, answer.it.asked.what);
-    want("by its type", 0x80000007, answer.it.asked.reset);
+    want("its cluster, by any core of it", PSCI_STATUS_ON, smc(0, 0xc4000004, 0x101ff, 1, 0) ? 9 : answer.it.code);
+    want("another one, in 32 bits", PSCI_RETURN, smc(0, 0x84000003, 0x7700010000, 0x40001000, 7));
+    want("is asked on by its number", 3, answer.it.message.bytes[3]);
+    for (uint32_t type = 0x80000005; type <= 0x80000007; type++) {
+        want("a reset of the vendor", PSCI_STOP, smc(0, 0xc4000012, type, 0, 0));
+        want("is asked", PSCI_ASKS_RESET, answer.it.asked.what);
+        want("by its type", type, answer.it.asked.reset);
+        enter(0, type - 0x80000003, 1, PSCI_CAUSE_BOOT);
+    }
     make(do_close_poller);
+    make(do_close);
+}
+
+/* The first fault of a machine, also of two; what is none; and functions that are not there. */
+static void faulty_machines(void) {
+    struct psci_board tall = {
+        .height = 3, .starts = 3, .lives = 3, .boot = 0x40000000, .many_ranges = 1,
+        .ranges = {{0x40000000, 0x40100000}}, .levels = {{2, {2, 2}}, {1, {2}}, {1, {1}}},
+    };
+    struct psci_board three = {
+        .height = 2, .starts = 3, .lives = 3, .boot = 0x40000000, .many_ranges = 1,
+        .ranges = {{0x40000000, 0x40100000}}, .levels = {{3, {2, 2, 2}}, {1, {3}}},
+    };
+    struct psci_machine given;
+#define FAULT(name, wanted, change) \
+    given = plain_machine, change, want(name, wanted, open_machine(&clusters, &given, 0x10101))
+    FAULT("a row too many", PSCI_MACHINE_NO_ROOM, given.many_rows = PSCI_MOST_ROWS + 1);
+    FAULT("a bit outside, and two of one MPIDR", PSCI_MACHINE_BAD_MPIDR,
+          (given.mpidrs[0] = 0x1000000, given.mpidrs[1] = given.mpidrs[2]));
+    FAULT("no boot core, and too many levels", PSCI_MACHINE_NO_BOOT_CORE, (given.mpidrs[3] = 5, given.levels = 3));
+    FAULT("a reserved bit", PSCI_MACHINE_BAD_WORD, given.rows[0].word = 0x05010001);
+    FAULT("a reserved bit, and one word twice", PSCI_MACHINE_BAD_WORD,
+          (given.rows[0].word = 0x02020000, given.rows[1] = given.rows[2]));
+    FAULT("a word of another type, and no power state", PSCI_MACHINE_WRONG_TYPE,
+          (given.rows[0].word = 0x01000001, given.rows[1].states[0] = 16));
+    FAULT("a state that there is not", PSCI_MACHINE_BAD_STATES, given.rows[0].states[1] = 16);
+    FAULT("a system of which the core goes on", PSCI_MACHINE_BAD_SYSTEM, given.system[0] = 0);
+    FAULT("one that does not go down, and no CPU_SUSPEND", PSCI_MACHINE_BAD_SYSTEM,
+          (given.system[2] = 0, given.functions -= PSCI_HAS_CPU_SUSPEND));
+    FAULT("a system above the levels", PSCI_MACHINE_BAD_SYSTEM, (given.levels = 1, given.system[2] = 0));
+    FAULT("an MPIDR of 40 bits", PSCI_OPENED, given.mpidrs[0] = 0x7700000000);
+    FAULT("no CPU_OFF and no CPU_SUSPEND", PSCI_OPENED, given.functions = PSCI_HAS_CPU_ON + PSCI_HAS_SYSTEM_RESET2);
+#undef FAULT
+    enter(0, 1, 1, PSCI_CAUSE_BOOT);
+    want("CPU_OFF", (uint32_t)-1, smc(0, 0x84000002, 0, 0, 0) ? 0 : (uint32_t)answer.it.code);
+    want("PSCI_SET_SUSPEND_MODE", (uint32_t)-1, smc(0, 0x8400000a, 0x8400000f, 0, 0) ? 0 : (uint32_t)answer.it.code);
+    given = plain_machine, given.functions -= PSCI_HAS_SYSTEM_SUSPEND, given.rows[3].states[3] = 1;
+    want("a state above the levels", PSCI_MACHINE_BAD_STATES, open_machine(&tall, &given, 0x10101));
+    given = plain_machine, given.many_mpidrs = 6, given.mpidrs[4] = 0x10200, given.mpidrs[5] = 0x10201;
+    want("a cluster that is on no path", PSCI_OPENED, open_machine(&three, &given, 0x10101));
+    want("stays where it is", 4, psci_place_of(&place.it, 0, 4));
     make(do_close);
 }
 
@@ -637,6 +684,7 @@ int main(void) {
     stops();
     readers();
     machines();
+    faulty_machines();
     frames();
     pool_give(memory, size);
     pollers();
