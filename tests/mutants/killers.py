@@ -9,6 +9,7 @@ import glob
 import os
 import pickle
 import re
+import shutil
 import struct
 import subprocess
 import sys
@@ -28,7 +29,8 @@ RANDOM, TOGETHER = 2000, 100
 CACHE = f"{os.environ.get('XDG_CACHE_HOME') or os.path.expanduser('~/.cache')}/gumdarts/mutants"
 # threads of the program, each a run that is audited
 THREADS = [("threads", "--seed", str(seed), "--count", "200") for seed in range(1, 6)]
-# a program over the C library: its sources beside the heap's, its words, and a file that it writes
+# a program over the C library: its sources beside the heap's, and its words: RECORD is a file that it writes, FOLDER a folder
+# of its own
 Program = namedtuple("Program", "name sources words")
 TESTS, HOSTS = "tests/hosts/programs", "hosts"
 RECORD_BOARD = "(1 3) exec 0x40000000-0x50000000 boot 0x40200000 starts 6 lives 40"
@@ -205,7 +207,7 @@ def compiled(top, archive, room, sources, name):
         file.write(PICK)
     path = f"{room}/{name.split()[0]}.program"
     if not os.path.exists(path):
-        words = ["cc", "-std=gnu11", "-O1", "-w", "-pthread", "-Iinclude", "-Ihosts", "-Ihosts/kvm", "-o", path, *sources,
+        words = ["cc", "-std=gnu11", "-O2", "-w", "-pthread", "-Iinclude", "-Ihosts", "-Ihosts/kvm", "-o", path, *sources,
                  f"{room}/pick.c", archive]
         done = subprocess.run(words, cwd=top, stderr=subprocess.PIPE, text=True, check=False)
         if done.returncode:
@@ -226,10 +228,14 @@ def of_archive(top, archive, room):
         def said(number, patience):
             """What the program says, and what it writes into a file."""
             here = f"{room}/{number}-{name.replace('/', '-').replace(' ', '-')}"
-            done = ran([here if it == "RECORD" else it for it in command], env=by_number(number), cwd=top,
+            if "FOLDER" in command:
+                os.makedirs(here)
+            done = ran([here if it in ("RECORD", "FOLDER") else it for it in command], env=by_number(number), cwd=top,
                        patience=patience)
             text = None
-            if os.path.exists(here):
+            if os.path.isdir(here):
+                shutil.rmtree(here)
+            elif os.path.exists(here):
                 with open(here, "rb") as file:
                     text = file.read()
                 os.remove(here)
@@ -251,8 +257,7 @@ def of_archive(top, archive, room):
         add(it.name, [path, *it.words])
     named = compiled(top, archive, room, NAMED, "named")
     loop, ctl_loop = compiled(top, archive, room, LOOP, "loop"), compiled(top, archive, room, CTL_LOOP, "ctl_loop")
-    os.makedirs(f"{room}/machines", exist_ok=True)
-    add("machine-library", ["tests/hosts/machine-library", named, f"{room}/machines"])
+    add("machine-library", ["tests/hosts/machine-library", named, "FOLDER"])
     os.makedirs(f"{room}/scripts", exist_ok=True)
     for it in stored(top):
         if it.status:

@@ -7,5 +7,4 @@ pub mod Standing
 pub mod Others
 pub mod Keeping
 pub mod Sending
-mod OrderRows
 mod SideRows

@@ -1,29 +1,65 @@
 -- Worked examples: what a call of a power controller and an opening leave in a place.
-use Rattle.std.proofs.Common.{◌≡◌, ℕ, [], refl, sym, ap, ◌∙◌, subst}
+use Rattle.std.proofs.Common.{◌≡◌, ℕ, [], ◌∷◌, false, refl, sym, ap, ◌∙◌, subst}
 use Rattle.std.proofs.lemmas.Bool.{true≢false}
-use Rattle.std.specs.Prelude.{None, Some, Ok, Err}
-use Rattle.psci_board.specs.Board.{BoardValue}
+use Rattle.std.specs.Prelude.{None, Some, Ok, Err, replicate}
+use Rattle.psci_board.specs.Board.{BoardValue, up}
 use Rattle.psci_board.specs.declared.fault.BoardFault.TheVariants as boards
 use Rattle.psci_ctl.specs.Seen.{ControllerValue, seen}
+use Rattle.psci_ctl.specs.declared.level.DomainRow.{DomainRow}
+use Rattle.psci_ctl.specs.declared.row.CoreRow.{CoreRow}
 use Rattle.psci_ctl_spec.specs.declared.call.CtlCall.{CtlCall}
 use Rattle.psci_ctl_spec.specs.Changes.{after}
-use Rattle.psci_ctl_spec.specs.Replies.{reply}
-use Rattle.psci_ctl_spec.specs.Values.{Values, start_of_life}
+use Rattle.psci_ctl_spec.specs.Effects.{effect_of}
+use Rattle.psci_ctl_spec.specs.Replies.{reply, reset_of, wake_of}
+use Rattle.psci_ctl_spec.specs.Values.{Values, start_of_life, starts_below}
 use Rattle.psci_ctl_spec.proofs.Steps.{board, reset, wake}
+use Rattle.psci_messages.specs.declared.start.Cause.TheVariants.{Wake}
 use Rattle.psci_ffi.specs.declared.controller_answer.ControllerAnswer.{ControllerAnswer}
 use Rattle.psci_ffi.specs.ControllerCalls.{IsFirst, IsGivenTo, IsKicked, IsMade, IsSameIgnored}
 use Rattle.psci_ffi.specs.ControllerCalls.{Opens}
 use Rattle.psci_ffi.specs.ControllerReaders.{life_number, life_read}
 use Rattle.psci_ffi.specs.ControllerShown.{call_shown}
 use Rattle.psci_ffi.specs.ControllerSlot.{KeptController}
-use Rattle.psci_ffi.proofs.ControllerRows.{computing, controller, nobody, nothing, off-now, only}
 use Rattle.psci_ffi.proofs.Apart.{apart-by, itself}
+
+-- A power controller ---------------------------------------------------------------------------
+
+abbrev core : ℕ → CoreRow
+core starts = record { starts = starts; cause = Wake }
+
+abbrev row : ℕ → ℕ → DomainRow
+row depth starts = record { depth = depth; starts = starts }
+
+-- core 0 was started twice, core 3 once; core 3 is in retention
+abbrev pub controller : ControllerValue
+controller = record {
+  board = board;
+  life = Some 2;
+  cores = core 2 ∷ core 0 ∷ core 0 ∷ core 1 ∷ [];
+  domains = (row 0 2 ∷ row 3 0 ∷ row 3 0 ∷ row 2 1 ∷ []) ∷ (row 0 2 ∷ row 1 1 ∷ [])
+      ∷ (row 0 3 ∷ []) ∷ [];
+}
+
+-- its system is off
+abbrev pub off-now : ControllerValue
+off-now = record controller { life = None }
+
+-- what an example unfolds to compute replies and values
+unfoldable computing : Unit {0}
+unfolding reply wake_of reset_of effect_of after starts_below up
+computing = tt
 
 -- Calls ---------------------------------------------------------------------------------------
 
 -- an answer by its number alone
 abbrev refusal : ℕ → ControllerAnswer
-refusal number = only number nobody nothing
+refusal number = record {
+  what = number;
+  start = record { core = 0; life = 0; number = 0; cause = 0 };
+  many = 0;
+  domains = replicate 4 (record { level = 0; index = 0; depth = 0 });
+  ack = record { some = false; bytes = replicate 53 0 };
+}
 
 abbrev what : ControllerAnswer → ℕ
 what a = a.what

@@ -1,30 +1,20 @@
--- The number of each fault of words, and what saving and loading leave in a place.
-use Rattle.std.proofs.Common.{◌≡◌, ◌∙◌, ℕ, [], ◌∷◌, List, ap, map, refl, sym}
+-- Worked examples: what saving and loading a power controller leave in a place.
+use Rattle.std.proofs.Common.{◌≡◌, ◌∙◌, ℕ, [], ◌∷◌, List, ap, refl, sym}
 use Rattle.std.specs.Prelude.{None, slice_index, Some}
 use Rattle.psci_board.specs.Board.{BoardValue}
 use Rattle.psci_ctl.specs.declared.fault.SavedFault.TheVariants as faults
 use Rattle.psci_ctl.specs.Saved.{saved, saved_fault}
 use Rattle.psci_ctl.specs.Seen.{ControllerValue}
 use Rattle.psci_ffi.specs.ControllerReaders.{life_read}
-use Rattle.psci_ffi.specs.ControllerSaved.{Loads, LoadsBy, Saves, saved_code, size_read}
+use Rattle.psci_ffi.specs.ControllerSaved.{Loads, LoadsBy, Saves}
 use Rattle.psci_ffi.proofs.Apart.{apart-by, itself}
-use Rattle.psci_ffi.proofs.ControllerRows.{controller, off-now}
+use Rattle.psci_ffi.proofs.ControllerPlaceRows.{controller, off-now}
 
-faults_as_numbers : map saved_code
-    (faults.Length ∷ faults.Format ∷ faults.Sum ∷ faults.Life ∷ faults.Starts ∷ faults.Depth ∷ [])
-    ≡ 50 ∷ 51 ∷ 52 ∷ 53 ∷ 54 ∷ 55 ∷ []
-faults_as_numbers = refl
-
-nothing_saved : (size_read None ≡ 0) × Saves None (7 ∷ []) 16 (7 ∷ [])
-nothing_saved = (refl, (refl, refl))
+nothing_saved : Saves None (7 ∷ []) 16 (7 ∷ [])
+nothing_saved = (refl, refl)
 
 nothing_loaded : Loads None (7 ∷ []) 16 None
 nothing_loaded = (refl, refl)
-
--- four cores and seven domains, behind the heading
-as_many : size_read (Some controller) ≡ 14
-unfolding saved
-as_many = refl
 
 -- words that were saved, where the system is off; and one word
 loads : LoadsBy None off-now (saved controller) 0 controller

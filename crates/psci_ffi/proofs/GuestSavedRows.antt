@@ -1,9 +1,7 @@
--- The number of each reason why words are not loaded, and what saving and loading leave in a
--- guest's place.
-use Rattle.std.proofs.Common.{◌≡◌, ℕ, [], ◌∷◌, List, length, map, refl, true}
+-- Worked examples: what saving and loading leave in a guest's place.
+use Rattle.std.proofs.Common.{◌≡◌, ℕ, [], ◌∷◌, List, length, refl, true}
 use Rattle.std.specs.Prelude.{Err, None, Ok, Some}
 use Rattle.psci_ctl.specs.Saved as controller_words
-use Rattle.psci_ctl.specs.declared.fault.SavedFault.TheVariants as controller
 use Rattle.psci_fw_state.specs.Saved as firmware_words
 use Rattle.psci_fw_state.specs.declared.fault.SavedFault.TheVariants as firmware
 use Rattle.psci_messages.specs.Saved.{slots_words}
@@ -12,34 +10,17 @@ use Rattle.psci_guest.specs.declared.fault.LoadFault.TheVariants as faults
 use Rattle.psci_guest.specs.Saved.{AreSaved, saved}
 use Rattle.psci_guest.proofs.SavedRows.{pair}
 use Rattle.psci_ffi.specs.GuestNamings.{GuestValue}
-use Rattle.psci_ffi.specs.GuestSaved.{firmware_code, guest_size_read, GuestLoads, GuestSaves}
-use Rattle.psci_ffi.specs.GuestSaved.{GuestSavesIf, IsLoadOf, loaded_code}
+use Rattle.psci_ffi.specs.GuestSaved.{GuestLoads, GuestSaves, GuestSavesIf, IsLoadOf}
 use Rattle.psci_ffi.proofs.Apart.{apart-by, itself}
 
-faults_as_numbers : map firmware_code
-    (firmware.Length ∷ firmware.Format ∷ firmware.Sum ∷ firmware.Life ∷ firmware.Mode
-    ∷ firmware.Core ∷ firmware.Depth ∷ firmware.Row ∷ firmware.Message ∷ [])
-    ≡ 80 ∷ 81 ∷ 82 ∷ 83 ∷ 84 ∷ 85 ∷ 86 ∷ 87 ∷ 88 ∷ []
-faults_as_numbers = refl
-
-reasons_as_numbers : (loaded_code (Ok tt) ≡ 0) × (loaded_code (Err faults.Memory) ≡ 8)
-    × (loaded_code (Err (faults.Firmware firmware.Sum)) ≡ 82)
-    × (loaded_code (Err faults.Values) ≡ 89)
-    × (loaded_code (Err (faults.Controller controller.Sum)) ≡ 52)
-reasons_as_numbers = (refl, refl, refl, refl, refl)
-
-nothing_saved : (guest_size_read None ≡ 0) × GuestSaves None (7 ∷ []) 16 (7 ∷ [])
-nothing_saved = (refl, (refl, refl))
+nothing_saved : GuestSaves None (7 ∷ []) 16 (7 ∷ [])
+nothing_saved = (refl, refl)
 
 nothing_loaded : GuestLoads None (7 ∷ []) 16 None
 nothing_loaded = (refl, refl)
 
 abbrev guest : GuestValue
 guest = record { power = pair; machine = None }
-
-as_many : guest_size_read (Some guest) ≡ 45
-unfolding firmware_words.saved controller_words.saved depth_words slots_words
-as_many = refl
 
 -- one word is too few, for either
 too_few : GuestSaves (Some guest) (7 ∷ []) 50 (7 ∷ [])

@@ -1,26 +1,18 @@
--- Worked examples: a machine of two clusters whose MPIDRs are no places, with words of which not
--- all bits count and two states of one class, in either mode; and what an opening leaves in its
--- place.
-use Rattle.std.proofs.Common.{◌≡◌, ◌∙◌, ℕ, Bool, List, [], ◌∷◌, ◌++◌, map, true, false, refl, ap}
+-- Worked examples: a machine of two clusters whose MPIDRs are no places, and what an opening leaves
+-- in its place.
+use Rattle.std.proofs.Common.{◌≡◌, ◌∙◌, ℕ, Bool, List, [], ◌∷◌, ◌++◌, true, false, refl, ap}
 use Rattle.std.proofs.Common.{arith, replicate, sym}
-use Rattle.std.specs.Prelude.{Option, Result, Ok, Err, None, Some}
-use Rattle.psci_abi.specs.declared.registers.Regs.{Regs}
+use Rattle.std.specs.Prelude.{Option, Ok, Err, None, Some}
 use Rattle.psci_abi.specs.declared.format.Format.TheVariants.{Original}
 use Rattle.psci_board.specs.Board.{BoardValue}
 use Rattle.psci_board.specs.declared.fault.BoardFault.TheVariants as boards
-use Rattle.psci_fw.specs.Seen.{seen}
-use Rattle.psci_fw_spec.specs.declared.call.FwCall.TheVariants.{Smc}
-use Rattle.psci_fw_spec.specs.declared.mode.SuspendMode.TheVariants as modes
-use Rattle.psci_platform.specs.declared.asked.Asked.TheVariants as asks
 use Rattle.psci_platform.specs.declared.class.Class.{Class}
 use Rattle.psci_platform.specs.declared.class.Class.TheVariants.{Running, Standby, Retention}
 use Rattle.psci_platform.specs.declared.class.Class.TheVariants.{PowerDown}
-use Rattle.psci_platform.specs.Calls.{asked_for}
 use Rattle.psci_platform.specs.Described.{DescriptionValue}
 use Rattle.psci_platform.specs.Platforms.{PlatformValue}
-use Rattle.psci_platform.proofs.Machines.{all_functions, board, calling, checking, row}
+use Rattle.psci_platform.proofs.Machines.{all_functions, board, checking, row}
 use Rattle.psci_status.specs.Polled.{PolledView}
-use Rattle.psci_ffi.specs.declared.machine_fault.MachineFault.{MachineFault}
 use Rattle.psci_ffi.specs.declared.machine_fault.MachineFault.TheVariants.{Board, Room}
 use Rattle.psci_ffi.specs.declared.machine_given.GivenMachine.{GivenMachine}
 use Rattle.psci_ffi.specs.declared.machine_given.GivenRow.{GivenRow}
@@ -28,10 +20,6 @@ use Rattle.psci_ffi.specs.declared.guest_turn.GuestTurn.{GuestTurn}
 use Rattle.psci_ffi.specs.GuestNamings.{GuestValue}
 use Rattle.psci_ffi.specs.GuestSlot.{KeptGuest}
 use Rattle.psci_ffi.specs.MachineOpening.{IsMade, IsNewWith, OpensGuest, OpensMachine}
-use Rattle.psci_ffi.specs.Machines.{machine_on}
-use Rattle.psci_ffi.specs.Namings.{asked_in, regs_in}
-use Rattle.psci_ffi.specs.Readers.{core_read, mpidr_read, place_read}
-use Rattle.psci_ffi.specs.Shown.{asked_shown, called_in, regs_given, told_in}
 use Rattle.psci_ffi.specs.Slot.{IsFull, Kept}
 use Rattle.psci_ffi.proofs.Apart.{apart-by, itself}
 
@@ -88,82 +76,12 @@ last = record {
   ready = None;
 }
 
-last_boots : ◌≡◌ {A = Result PlatformValue MachineFault} (machine_on paired paired_board 1)
-    (Ok last)
-unfolding checking
-last_boots = refl
-
 abbrev kept : Option PlatformValue
 kept = Some last
 
 -- a place that was opened with it
 abbrev placed : PolledView → Kept
 placed p = Some (record { polled = p; machine = kept })
-
--- Names -----------------------------------------------------------------------------------------
-
-numbers_of_pairs : (p : PolledView) → map (core_read (placed p)) (0x100 ∷ 0x101 ∷ 0 ∷ 1 ∷ 2 ∷ [])
-    ≡ 3 ∷ 2 ∷ 1 ∷ 0 ∷ 0xFFFF ∷ []
-unfolding calling
-numbers_of_pairs p = refl
-
-mpidrs_of_pairs : (p : PolledView) → map (mpidr_read (placed p)) (3 ∷ 2 ∷ 1 ∷ 0 ∷ [])
-    ≡ 0x100 ∷ 0x101 ∷ 0 ∷ 1 ∷ []
-unfolding calling
-mpidrs_of_pairs p = refl
-
--- of the clusters and of the system
-places_of_domains : (p : PolledView) → map (place_read (placed p))
-    (record { level = 1; place = 0 } ∷ record { level = 1; place = 1 }
-    ∷ record { level = 2; place = 0 } ∷ []) ≡ 1 ∷ 0 ∷ 0 ∷ []
-unfolding calling
-places_of_domains p = refl
-
--- Calls -----------------------------------------------------------------------------------------
-
-abbrev regs : ℕ → ℕ → Regs
-regs x0 x1 = regs_given x0 x1 0x40000000 7
-
--- CPU_ON of the first core of the tree, AFFINITY_INFO of the cluster of the boot core
-calls_by_place : map (regs_in kept modes.Platform)
-    (regs 0xC4000003 0x100 ∷ regs_given 0xC4000004 0x0FF 1 0 ∷ [])
-    ≡ regs 0xC4000003 0x101 ∷ regs_given 0xC4000004 1 1 0 ∷ []
-unfolding calling
-calls_by_place = refl
-
--- a word whose last byte does not count
-any_last_byte : regs_in kept modes.Platform (regs 0xC4000001 0x01010077)
-    ≡ regs 0xC4000001 0x01010033
-unfolding calling
-any_last_byte = refl
-
--- The second state in retention is asked for in OS-initiated mode alone.
-second_state : map (λ mode. asked_in kept mode (regs 0xC4000001 0x01010100))
-    (modes.OsInitiated ∷ modes.Platform ∷ []) ≡ asks.States (1 ∷ 3 ∷ 0 ∷ 0 ∷ []) ∷ asks.Nothing ∷ []
-unfolding asked_for
-second_state = refl
-
--- the firmware is called, and what is asked is told, in the mode that it is in
-called_in_its_mode : (p : PolledView) → (seen p.firmware).mode ≡ modes.OsInitiated
-    → called_in (placed p) (regs 0xC4000001 0x01010100) ≡ Smc (regs 0xC4000001 0x01010023)
-unfolding calling
-called_in_its_mode p mode = ap (λ m. Smc (regs_in kept m (regs 0xC4000001 0x01010100))) mode
-
-called_in_the_other_mode : (p : PolledView) → (seen p.firmware).mode ≡ modes.Platform
-    → called_in (placed p) (regs 0xC4000001 0x01010100) ≡ Smc (regs 0xC4000001 0xFFFFFFFF)
-unfolding calling
-called_in_the_other_mode p mode = ap (λ m. Smc (regs_in kept m (regs 0xC4000001 0x01010100))) mode
-
-told_in_its_mode : (p : PolledView) → (seen p.firmware).mode ≡ modes.OsInitiated
-    → told_in (placed p) (regs 0xC4000001 0x01010100)
-    ≡ record { what = 1; states = 1 ∷ 3 ∷ 0 ∷ 0 ∷ []; reset = 0 }
-unfolding asked_for
-told_in_its_mode p mode =
-    ap (λ m. asked_shown (asked_in kept m (regs 0xC4000001 0x01010100))) mode
-
--- without a firmware the call is as it came
-called_of_nothing : called_in None (regs 0xC4000003 0x100) ≡ Smc (regs 0xC4000003 0x100)
-called_of_nothing = refl
 
 -- Opening ---------------------------------------------------------------------------------------
 

@@ -1,28 +1,19 @@
--- Worked examples: the words that a place is opened with, and what is asked beside an answer.
-use Rattle.std.proofs.Common.{◌≡◌, ℕ, [], ◌∷◌, None, Some, refl}
+-- Worked examples: the words that a place is opened with, and that are left in it.
+use Rattle.std.proofs.Common.{ℕ, [], None, Some, refl}
 use Rattle.std.specs.Global.{Global}
 use Rattle.std_alloc.specs.declared.boxed.Box.{Box}
 use Rattle.std.specs.Prelude.{Option}
 use Rattle.psci_board.specs.Board.{BoardValue}
 use Rattle.psci_fw_spec.specs.declared.call.FwCall.{FwCall}
-use Rattle.psci_platform.specs.declared.asked.Asked.TheVariants.{Nothing, States}
 use Rattle.psci_platform.specs.Platforms.{PlatformValue}
 use Rattle.psci_status.specs.Polled.{IsNext, PolledView}
-use Rattle.psci_ffi.specs.declared.asked.GivenAsked.{GivenAsked}
 use Rattle.psci_ffi.specs.declared.naming.Naming.TheVariants.{Board, Machine}
 use Rattle.psci_ffi.specs.Frames.{IsTakenBy}
-use Rattle.psci_ffi.specs.Namings.{PlaceValue, board_of, machine_of}
-use Rattle.psci_ffi.specs.Shown.{IsNew, IsNewIn, IsNewOn, IsNextIn, asked_shown, refused}
-use Rattle.psci_ffi.specs.Shown.{with_asked}
+use Rattle.psci_ffi.specs.Namings.{PlaceValue}
+use Rattle.psci_ffi.specs.Shown.{IsNew, IsNewIn, IsNewOn, IsNextIn}
 use Rattle.psci_ffi.proofs.Apart.{apart-by}
 
 -- Words ---------------------------------------------------------------------------------------
-
--- a board has its own words and is no machine; a machine has a board
-named : (b : Box BoardValue Global) (m : Box PlatformValue Global)
-    → (board_of (Board b) ≡ b.value) × (board_of (Machine m) ≡ m.value.board)
-    × (machine_of (Board b) ≡ None) × (machine_of (Machine m) ≡ Some m.value)
-named b m = (refl, refl, refl, refl)
 
 -- a place with these words
 abbrev with_machine : Option PlatformValue → PolledView → PlaceValue
@@ -75,14 +66,3 @@ left_not m p q core call = λ h. apart-by many h.machine refl
 taken_not : (m : PlatformValue) (p q : PolledView) (code : ℕ)
     → ¬ (IsTakenBy (with_machine (Some m) p) [] code (with_machine None q))
 taken_not m p q code = λ h. apart-by many h.machine refl
-
--- What is asked -------------------------------------------------------------------------------
-
-abbrev states : GivenAsked
-states = asked_shown (States (1 ∷ 1 ∷ 0 ∷ 0 ∷ []))
-
--- it stands beside all else that is answered, also where that is a refusal
-beside : ((with_asked states (refused 19)).what ≡ 19)
-    × ((with_asked states (refused 19)).asked ≡ states)
-    × ((refused 19).asked ≡ asked_shown Nothing)
-beside = (refl, refl, refl)

@@ -1,5 +1,5 @@
--- Worked examples of which message C sends once more; and it is the one that a reminder says.
-use Rattle.std.proofs.Common.{◌≡◌, ℕ, true, false, [], ◌∷◌, map, refl}
+-- What C keeps of a look decides as a reminder does.
+use Rattle.std.proofs.Common.{◌≡◌, ℕ, false, refl}
 use Rattle.std.specs.Prelude.{◌==◌, nat_lt, Option, None, Some}
 use Rattle.psci_board.specs.Board.{cores}
 use Rattle.psci_enter.specs.Again.{outstanding_in, still}
@@ -10,62 +10,8 @@ use Rattle.psci_messages.specs.Slots.{is_kind}
 use Rattle.psci_link.specs.Frame.{kind_code}
 use Rattle.psci_ffi.specs.declared.port_again.PortSent.{PortSent}
 use Rattle.psci_ffi.specs.Namings.{PlaceValue}
-use Rattle.psci_ffi.specs.PortAgain.{again_left, again_said, again_shown, sent_number}
-use Rattle.psci_ffi.specs.PortAgain.{sent_shown, still_sent}
-use Rattle.psci_ffi.specs.Shown.{frame_shown, no_frame}
-
-abbrev sent : Kind → MessageValue
-sent kind = record { kind = kind; core = record { number = 3 }; life = 1; number = 2; parts = [] }
-
-abbrev held : ℕ → ℕ → ℕ → PortSent
-held kind life number = record { kind = kind; life = life; number = number }
-
--- nothing, and a message of each kind
-all_shown : map sent_shown (None ∷ Some (sent kinds.Down) ∷ Some (sent kinds.Start)
-    ∷ Some (sent kinds.Off) ∷ Some (sent kinds.Reset) ∷ [])
-    ≡ held 0 0 0 ∷ held 1 1 2 ∷ held 2 1 2 ∷ held 3 1 2 ∷ held 4 1 2 ∷ []
-all_shown = refl
-
--- the same message, one of another kind, life and number, and none
-all_said : map (λ (last : PortSent). sent_number last (Some (sent kinds.Down)))
-    (held 1 1 2 ∷ held 2 1 2 ∷ held 1 2 2 ∷ held 1 1 3 ∷ held 0 0 0 ∷ [])
-    ≡ 2 ∷ 1 ∷ 1 ∷ 1 ∷ 1 ∷ []
-all_said = refl
-
-all_sent : map (λ (last : PortSent). still_sent last (Some (sent kinds.Down)))
-    (held 1 1 2 ∷ held 2 1 2 ∷ held 1 2 2 ∷ held 1 1 3 ∷ held 0 0 0 ∷ [])
-    ≡ Some (sent kinds.Down) ∷ None ∷ None ∷ None ∷ None ∷ []
-all_sent = refl
-
--- nothing is outstanding any more
-none_said : sent_number (held 1 1 2) None ∷ sent_number (held 0 0 0) None ∷ [] ≡ 0 ∷ 0 ∷ []
-none_said = refl
-
--- Refusals: an empty place, and a number above that of the system ------------------------------
-
-no_firmware : again_said None 0 (held 1 1 2) ≡ 16
-no_firmware = refl
-
-no_firmware_shown : again_shown None 0 (held 1 1 2) ≡ no_frame
-no_firmware_shown = refl
-
-no_firmware_left : again_left None 0 (held 1 1 2) ≡ held 1 1 2
-no_firmware_left = refl
-
-module _ (f : PlaceValue) (number : ℕ) (last : PortSent) where
-  above : nat_lt (cores f.polled.firmware.board) number ≡ true
-      → again_said (Some f) number last ≡ 17
-  above e = rw e refl
-
-  above_shown : nat_lt (cores f.polled.firmware.board) number ≡ true
-      → again_shown (Some f) number last ≡ no_frame
-  above_shown e = rw e refl
-
-  above_left : nat_lt (cores f.polled.firmware.board) number ≡ true
-      → again_left (Some f) number last ≡ last
-  above_left e = rw e refl
-
--- As a reminder --------------------------------------------------------------------------------
+use Rattle.psci_ffi.specs.PortAgain.{again_left, again_shown, sent_shown, still_sent}
+use Rattle.psci_ffi.specs.Shown.{frame_shown}
 
 no_kind : (k : Kind) → (0 == kind_code k) ≡ false
 no_kind kinds.Down = refl

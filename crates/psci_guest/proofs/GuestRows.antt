@@ -13,15 +13,33 @@ use Rattle.psci_messages.specs.declared.kind.Kind.TheVariants as kinds
 use Rattle.psci_world_spec.specs.declared.place.Place.TheVariants.{Started}
 use Rattle.psci_world_spec.specs.declared.said.Record.{Record}
 use Rattle.psci_world_spec.specs.Places.{place}
+use Rattle.psci_world_spec.proofs.Scripts as scripts
 use Rattle.psci_world_spec.proofs.Scripts.{board, tall}
 use Rattle.psci_guest.specs.declared.arrival.Arrival.{Arrival}
 use Rattle.psci_guest.specs.declared.turned.Turned.{Turned}
 use Rattle.psci_guest.specs.Arrivals.{AreArrivals}
 use Rattle.psci_guest.specs.Guest.{IsAfter, IsKicked, IsTold, IsTurned}
 use Rattle.psci_guest.specs.Pair.{Kept, PairValue}
-use Rattle.psci_guest.specs.Turns.{event_of, exchange, turns, Wakes}
+use Rattle.psci_guest.specs.Turns.{arrived, Calls, event_of, exchange, Turn, turns, Wakes}
 use Rattle.psci_guest.proofs.ArrivalRows.{by_core}
-use Rattle.psci_guest.proofs.TurnRows.{computing, on_3, system_off, system_reset}
+
+unfoldable computing : Unit {0}
+unfolding scripts.computing turns arrived exchange
+computing = tt
+
+-- a core calls with these registers
+abbrev call : ℕ → ℕ → ℕ → ℕ → ℕ → Turn
+call c x0 x1 x2 x3 = Calls c (record { x0 = x0; x1 = x1; x2 = x2; x3 = x3 })
+
+-- CPU_ON of core 3 by the boot core, and what else is called
+abbrev on_3 : Turn
+on_3 = call 0 0xc4000003 0x101 0x40001000 7
+
+abbrev system_off : ℕ → Turn
+system_off c = call c 0x84000008 0 0 0
+
+abbrev system_reset : ℕ → Turn
+system_reset c = call c 0x84000009 0 0 0
 
 -- the boot core has entered
 abbrev began : List Record

@@ -19,6 +19,4 @@ pub mod SavedParts
 -- Worked examples.
 mod ArrivalRows
 mod GuestRows
-mod PairRows
 pub mod SavedRows
-mod TurnRows

@@ -1,25 +1,19 @@
--- Worked examples of a guest as words, and of words that are refused: a board of one core, which
--- runs in its first start of life 2.
-use Rattle.std.proofs.Common.{◌≡◌, ◌∙◌, ℕ, false, List, [], ◌∷◌, ◌++◌, length, replicate, Option}
-use Rattle.std.proofs.Common.{ap, Some, None, refl, sym, take, drop}
+-- Worked examples of words that are refused: a guest of a board of one core, which runs in its first
+-- start of life 2.
+use Rattle.std.proofs.Common.{ℕ, false, [], ◌∷◌, Some, None, refl}
 use Rattle.psci_board.specs.Board.{BoardValue}
 use Rattle.psci_board.specs.psci_abi.declared.format.Format.TheVariants.{Original}
 use Rattle.psci_messages.specs.declared.start.Cause.TheVariants.{Boot}
 use Rattle.psci_messages.specs.psci_state.declared.cores.Activity.TheVariants.{Active}
-use Rattle.psci_messages.specs.Saved.{slots_words}
 use Rattle.psci_fw_spec.specs.declared.mode.SuspendMode.TheVariants.{Platform}
 use Rattle.psci_fw_spec.specs.declared.status.Status.TheVariants.{On}
-use Rattle.psci_ctl.specs.Saved as controller
 use Rattle.psci_ctl.specs.Seen.{ControllerValue}
 use Rattle.psci_ctl.specs.declared.fault.SavedFault.TheVariants as behind
 use Rattle.psci_fw.specs.Seen.{FirmwareValue}
-use Rattle.psci_fw.specs.declared.fault.OpenFault.TheVariants as opens
 use Rattle.psci_fw_state.specs.Saved as firmware
 use Rattle.psci_fw_state.specs.declared.fault.SavedFault.TheVariants as own
-use Rattle.psci_tree.specs.Saved.{depth_words}
 use Rattle.psci_guest.specs.Pair.{PairValue}
-use Rattle.psci_guest.specs.Saved.{controller_words, firmware_count, firmware_words, IsRefused}
-use Rattle.psci_guest.specs.Saved.{load_fault, saved}
+use Rattle.psci_guest.specs.Saved.{IsRefused, saved}
 use Rattle.psci_guest.specs.declared.fault.LoadFault.TheVariants as faults
 
 abbrev pub board : BoardValue
@@ -58,26 +52,7 @@ pair = record {
   };
 }
 
--- Words ------------------------------------------------------------------------------------------
-
--- the firmware's come first, then all others
-so_many : (firmware_count board ≡ 39) × (length (saved pair) ≡ 45)
-    × (take 1 (saved pair) ≡ 0x177667370 ∷ [])
-    × (take 1 (drop 39 (saved pair)) ≡ 0x16c746370 ∷ [])
-unfolding firmware.saved controller.saved depth_words slots_words
-so_many = (refl, refl, refl, refl)
-
-cut : (firmware_words board (replicate 39 1 ++ 2 ∷ 3 ∷ []) ≡ replicate 39 1)
-    × (controller_words board (replicate 39 1 ++ 2 ∷ 3 ∷ []) ≡ 2 ∷ 3 ∷ [])
-    × (firmware_words board (1 ∷ []) ≡ 1 ∷ []) × (controller_words board (1 ∷ []) ≡ [])
-cut = (refl, refl, refl, refl)
-
 -- Refusals ---------------------------------------------------------------------------------------
-
-same_reason : (load_fault opens.Memory ≡ faults.Memory)
-    × (load_fault (opens.Words own.Sum) ≡ faults.Firmware own.Sum)
-    × (load_fault opens.Values ≡ faults.Values)
-same_reason = (refl, refl, refl)
 
 -- memory may lack for any words; a word alone is too few
 too_few : IsRefused board (saved pair) faults.Memory

@@ -1,5 +1,5 @@
 -- Identities of boards, and what the firmware is asked with them.
-use Rattle.std.proofs.Common.{◌≡◌, ℕ, List, [], ◌∷◌, refl, map, length}
+use Rattle.std.proofs.Common.{◌≡◌, ℕ, List, [], ◌∷◌, refl, map}
 use Rattle.psci_abi.specs.Calls.{request_of}
 use Rattle.psci_abi.specs.declared.registers.Regs.{Regs}
 use Rattle.psci_abi.specs.declared.request.Request.{Request}
@@ -11,14 +11,10 @@ use Rattle.psci_fw_spec.specs.declared.mode.SuspendMode.TheVariants.{Platform}
 use Rattle.psci_platform.specs.declared.asked.Asked.TheVariants.{Nothing, States}
 use Rattle.psci_platform.specs.Calls.{regs_for}
 use Rattle.psci_platform.specs.Described.{DescriptionValue}
-use Rattle.psci_platform.specs.Identity.{asks_up_to, depths_at, identity, own_asked}
-use Rattle.psci_platform.proofs.Machines.{board, calling, row, regs}
-use Rattle.psci_abi.proofs.Tables.{◌⇒◌, Gives}
+use Rattle.psci_platform.specs.Identity.{asks_up_to, identity, own_asked}
+use Rattle.psci_platform.proofs.Machines.{board, calling, regs}
 
 -- What an identity has --------------------------------------------------------------------------
-
-digits : depths_at 228 ≡ 0 ∷ 1 ∷ 2 ∷ 3 ∷ []
-digits = refl
 
 -- the words of a board of one cluster
 abbrev words : Format → List ℕ
@@ -36,16 +32,9 @@ extended_words : words Extended
 unfolding asks_up_to
 extended_words = refl
 
-how_many : map (λ height. length (asks_up_to height)) (1 ∷ 2 ∷ 3 ∷ []) ≡ 9 ∷ 19 ∷ 34 ∷ []
-unfolding asks_up_to
-how_many = refl
-
 -- two clusters of two cores, and the system
 abbrev small : BoardValue
 small = board ((2 ∷ 2 ∷ []) ∷ (2 ∷ []) ∷ []) Original
-
-affinity_words : (identity small).mpidrs ≡ 0 ∷ 1 ∷ 0x100 ∷ 0x101 ∷ []
-affinity_words = refl
 
 -- What the firmware is asked --------------------------------------------------------------------
 
@@ -74,29 +63,3 @@ told_beside : map (own_asked small) (CpuSuspend 0x01010033 0x40001000 7
     ∷ CpuSuspend 0x01010003 0x40001000 7 ∷ SystemSuspend 0x40001000 7 ∷ CpuOn 0 0x40001000 7 ∷ [])
     ≡ States (3 ∷ 3 ∷ 0 ∷ 0 ∷ []) ∷ Nothing ∷ States (3 ∷ 3 ∷ 3 ∷ 0 ∷ []) ∷ Nothing ∷ []
 told_beside = refl
-
--- a domain is named by its first core: another request, for the same domain
-called_otherwise : Gives (regs_for (identity small) small 0 Platform)
-    (regs 0xC4000004 0x101 1 0 ⇒ regs 0xC4000004 0x100 1 0
-    -- a word of no row is none, and is another one that is none
-    ∷ regs 0xC4000001 0x01010003 0 0 ⇒ regs 0xC4000001 0xFFFFFFFF 0 0 ∷ [])
-unfolding calling asks_up_to
-called_otherwise = refl
-
--- One change, and it is another call --------------------------------------------------------------
-
-other_row : asked (record (identity small) {
-  rows = row 0x01010033 (3 ∷ 1 ∷ 0 ∷ 0 ∷ []) ∷ (identity small).rows;
-}) (regs 0xC4000001 0x01010033 0x40001000 7) ≡ CpuSuspend 0x01010013 0x40001000 7
-unfolding calling asks_up_to
-other_row = refl
-
-without_rows : asked (record (identity small) { rows = [] })
-    (regs 0xC4000001 0x01010033 0x40001000 7) ≡ CpuSuspend 0xFFFFFFFF 0x40001000 7
-unfolding calling asks_up_to
-without_rows = refl
-
-other_mpidr : asked (record (identity small) { mpidrs = 1 ∷ 0 ∷ 0x100 ∷ 0x101 ∷ [] })
-    (regs 0xC4000003 1 0x40001000 7) ≡ CpuOn 0 0x40001000 7
-unfolding calling asks_up_to
-other_mpidr = refl

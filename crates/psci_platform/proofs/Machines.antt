@@ -1,8 +1,7 @@
 -- Platforms to try the definitions on: boards, MPIDRs and power state words as the device trees of
--- real machines have them. What a word does, and which functions there are, is chosen so that the
--- examples differ: firmware of these machines may do otherwise.
+-- two real machines have them, of which firmware may do otherwise.
 use Rattle.std.specs.Prelude.{Option}
-use Rattle.psci_platform.proofs.Words.{◌++◌, ◌∷◌, [], BoardValue, DescriptionValue, Extended, false}
+use Rattle.psci_platform.proofs.Words.{◌++◌, ◌∷◌, [], BoardValue, DescriptionValue, false}
 use Rattle.psci_platform.proofs.Words.{Format, Functions, List, Original, PlatformFault, replicate}
 use Rattle.psci_platform.proofs.Words.{Row, true, ℕ}
 use Rattle.psci_abi.specs.declared.registers.Regs.{Regs}
@@ -23,10 +22,6 @@ checking = tt
 unfoldable pub calling : Unit {0}
 unfolding regs_for moved up
 calling = tt
-
--- what a table says of things that are each written out
-abbrev pub itself : {A : Type 0} → A → A
-itself a = a
 
 -- registers x0 to x3
 abbrev pub regs : ℕ → ℕ → ℕ → ℕ → Regs
@@ -92,15 +87,6 @@ describes mpidrs levels rows = record {
   resets = [];
 }
 
--- Pine64 (Allwinner A64): four cores, no states
-abbrev pub pine64_board : BoardValue
-pine64_board = board ((4 ∷ []) ∷ []) Original
-
-abbrev pub pine64 : DescriptionValue
-pine64 = record (describes (0 ∷ 1 ∷ 2 ∷ 3 ∷ []) 1 []) {
-  functions = record most_functions { cpu_suspend = false };
-}
-
 -- RK3399: clusters of four and of two cores, and the system; here with a reset of the vendor
 abbrev pub rk3399_board : BoardValue
 rk3399_board = board ((4 ∷ 2 ∷ []) ∷ (2 ∷ []) ∷ []) Original
@@ -117,10 +103,6 @@ rk3399 = record (describes (0 ∷ 1 ∷ 2 ∷ 3 ∷ 0x100 ∷ 0x101 ∷ []) 2
 abbrev pub fault : DescriptionValue → Option PlatformFault
 fault d = fault_of d rk3399_board 0
 
--- i.MX8MM: four cores, and a word with field 0 by which the cluster sleeps, too, here powered down
-abbrev pub imx8mm : DescriptionValue
-imx8mm = describes (0 ∷ 1 ∷ 2 ∷ 3 ∷ []) 1 (row 0x00010033 (1 ∷ 1 ∷ 0 ∷ 0 ∷ []) ∷ [])
-
 -- MT8370: six cores of one cluster, in affinity field 1 and with a gap
 abbrev pub mt8370_board : BoardValue
 mt8370_board = board ((6 ∷ []) ∷ []) Original
@@ -128,48 +110,3 @@ mt8370_board = board ((6 ∷ []) ∷ []) Original
 abbrev pub mt8370 : DescriptionValue
 mt8370 = describes (0 ∷ 0x100 ∷ 0x200 ∷ 0x300 ∷ 0x600 ∷ 0x700 ∷ []) 1
     (row 0x00010000 (1 ∷ 0 ∷ 0 ∷ 0 ∷ []) ∷ row 0x01010010 (1 ∷ 1 ∷ 0 ∷ 0 ∷ []) ∷ [])
-
--- MT8365: four cores, of whose cluster two states power down
-abbrev pub mt8365 : DescriptionValue
-mt8365 = describes (0 ∷ 1 ∷ 2 ∷ 3 ∷ []) 1
-    (row 0x00010001 (1 ∷ 0 ∷ 0 ∷ 0 ∷ []) ∷ row 0x01010001 (1 ∷ 1 ∷ 0 ∷ 0 ∷ [])
-    ∷ row 0x01010004 (1 ∷ 2 ∷ 0 ∷ 0 ∷ []) ∷ [])
-
--- SDA660: two clusters, of which the one with affinity 1 boots; words of the extended format
-abbrev pub sda660_board : BoardValue
-sda660_board = board ((4 ∷ 4 ∷ []) ∷ (2 ∷ []) ∷ []) Extended
-
-abbrev pub sda660 : DescriptionValue
-sda660 = describes (0x100 ∷ 0x101 ∷ 0x102 ∷ 0x103 ∷ 0 ∷ 1 ∷ 2 ∷ 3 ∷ []) 2
-    (row 0x40000002 (1 ∷ 0 ∷ 0 ∷ 0 ∷ []) ∷ row 0x40000003 (2 ∷ 0 ∷ 0 ∷ 0 ∷ [])
-    ∷ row 0x400000F2 (2 ∷ 1 ∷ 0 ∷ 0 ∷ []) ∷ row 0x400000F3 (2 ∷ 2 ∷ 0 ∷ 0 ∷ [])
-    ∷ row 0x400000F4 (2 ∷ 3 ∷ 0 ∷ 0 ∷ []) ∷ [])
-
--- Hamoa: three clusters of four cores in affinity fields 1 and 2; states in retention at each
--- level, of which the cluster has two
-abbrev pub hamoa_board : BoardValue
-hamoa_board = board ((4 ∷ 4 ∷ 4 ∷ []) ∷ (3 ∷ []) ∷ []) Original
-
-abbrev pub hamoa : DescriptionValue
-hamoa = record (describes (0 ∷ 0x100 ∷ 0x200 ∷ 0x300 ∷ 0x10000 ∷ 0x10100 ∷ 0x10200 ∷ 0x10300
-    ∷ 0x20000 ∷ 0x20100 ∷ 0x20200 ∷ 0x20300 ∷ []) 2
-    (row 0x00000004 (1 ∷ 0 ∷ 0 ∷ 0 ∷ []) ∷ row 0x01000044 (1 ∷ 1 ∷ 0 ∷ 0 ∷ [])
-    ∷ row 0x01000054 (1 ∷ 2 ∷ 0 ∷ 0 ∷ []) ∷ row 0x0200C354 (1 ∷ 2 ∷ 1 ∷ 0 ∷ []) ∷ [])) {
-      classes = retained ∷ level (Retention ∷ Retention ∷ []) 13 ∷ retained ∷ down ∷ [];
-    }
-
--- HIP07: of 64 cores the first two of each fourth cluster: groups 1, 3, 5, 7 in affinity field 2
-abbrev pub hip07_board : BoardValue
-hip07_board = board ((2 ∷ 2 ∷ 2 ∷ 2 ∷ []) ∷ (1 ∷ 1 ∷ 1 ∷ 1 ∷ []) ∷ (4 ∷ []) ∷ []) Original
-
-abbrev pub hip07 : DescriptionValue
-hip07 = describes (0x10000 ∷ 0x10001 ∷ 0x30000 ∷ 0x30001 ∷ 0x50000 ∷ 0x50001 ∷ 0x70000
-    ∷ 0x70001 ∷ []) 3 []
-
--- Tegra186: in the extended format the lowest 24 bits say how long, and do not count
-abbrev pub tegra186_board : BoardValue
-tegra186_board = board ((4 ∷ 2 ∷ []) ∷ (2 ∷ []) ∷ []) Extended
-
-abbrev pub tegra186 : DescriptionValue
-tegra186 = describes (0x100 ∷ 0x101 ∷ 0x102 ∷ 0x103 ∷ 0 ∷ 1 ∷ []) 2
-    (record { word = 0x46000000; mask = 0xFF000000; states = 1 ∷ 0 ∷ 0 ∷ 0 ∷ [] } ∷ [])

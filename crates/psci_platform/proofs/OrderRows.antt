@@ -35,10 +35,3 @@ each = None ∷ Some 0 ∷ Some 1 ∷ Some 4 ∷ []
 
 of_the_cores : map (λ ready. has_level ready 0) each ≡ false ∷ false ∷ true ∷ true ∷ []
 of_the_cores = refl
-
-of_the_clusters : map (λ ready. has_level ready 1) each ≡ false ∷ false ∷ false ∷ true ∷ []
-of_the_clusters = refl
-
--- of the highest level, and of none
-above : map (has_level (Some 4)) (3 ∷ 4 ∷ []) ≡ true ∷ false ∷ []
-above = refl

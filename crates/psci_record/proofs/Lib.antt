@@ -1,4 +1,3 @@
 pub mod FrameDigits
 pub mod RadixDigits
 pub mod LineFeeds
-mod LineRows

@@ -136,6 +136,7 @@ static void faults(void) {
     want("unused", PSCI_FRAME_UNUSED, deliver_changed(52, 1));
     want("core", PSCI_FRAME_CORE, deliver_changed(3, 4));
     want("depth", PSCI_FRAME_DEPTH, deliver_changed(14, 0));
+    want("a part deeper than the one below it", PSCI_FRAME_DEPTH, deliver_changed(14, 2));
     want("level", PSCI_FRAME_LEVEL, deliver_changed(23, 2));
     want("a part above the system", PSCI_FRAME_LEVEL, (message(1, 0, 1, 1, 4), deliver(53)));
     message(0x11, 0, 1, 1, 0);
@@ -182,6 +183,7 @@ static void lives(void) {
     want("ignored", 0, answer.it.ack.some);
     message(4, 0, 1, 1, 0);
     want("the next life", PSCI_CTL_RESTART, deliver(PSCI_FRAME_LEN));
+    want("by the first start", 2 << 8 | 1, answer.it.start.life << 8 | answer.it.start.number);
     want("is life 2", 2, psci_ctl_life(&place.it));
     want("with the boot core", 2 << 16 | 1 << 8 | PSCI_CAUSE_BOOT, found(0));
     want("alone", 0, psci_ctl_starts(&place.it, 3));
@@ -226,6 +228,7 @@ static void saving(void) {
     message(1, 3, 1, 1, 2), deliver(PSCI_FRAME_LEN);
     want("so many words", WORDS, psci_ctl_save_size(&place.it));
     want("a word too few", PSCI_SAVED_LENGTH, save(WORDS - 1));
+    want("a word too many", PSCI_SAVED_LENGTH, save(WORDS + 1));
     want("none is written", 0, words[1]);
     want("saved", 0, save(WORDS));
     want("the format", 0x16c746370, words[1]);

@@ -17,7 +17,7 @@ static void want(const char *what, uint64_t wanted, uint64_t got) {
 }
 
 #define REST " exec 0x40000000-0x40100000 boot 0x40000000 starts 200 lives 2"
-enum { ROUND = 0x5a, FIRMWARE = 103, WORDS = FIRMWARE + 14, CORES = 5, DOMAINS = 13, ROWS = 27, SLOTS = 43 };
+enum { ROUND = 0x5a, FIRMWARE = 103, WORDS = FIRMWARE + 14, CORES = 5, DOMAINS = 13, MANY_DOMAINS = 7, ROWS = 27, SLOTS = 43 };
 static const char board[] = "(2 2)" REST;
 static struct psci_guest_place guest, other;
 static struct psci_guest_turn turn;
@@ -105,6 +105,10 @@ static void not_loaded(void) {
     want("of no mode", PSCI_GUEST_MODE, load_with(4, 2));
     want("a core does nothing", PSCI_GUEST_CORE, load_with(CORES, 9));
     want("a domain too deep", PSCI_GUEST_DEPTH, load_with(DOMAINS, 4));
+    want("the first domain is confirmed deeper than granted", PSCI_GUEST_DEPTH, load_with(DOMAINS + MANY_DOMAINS, 1));
+    want("the last one is", PSCI_GUEST_DEPTH, load_with(DOMAINS + 2 * MANY_DOMAINS - 1, 1));
+    want("a cluster deeper than its core", PSCI_GUEST_DEPTH, load_with(DOMAINS + 4, 1));
+    want("the system deeper than its clusters", PSCI_GUEST_DEPTH, load_with(DOMAINS + 6, 1));
     want("no status", PSCI_GUEST_ROW, load_with(ROWS, 3));
     want("no opening, and an address", PSCI_GUEST_ROW, load_with(ROWS + 2, 1));
     want("no opening, and a context", PSCI_GUEST_ROW, load_with(ROWS + 3, 1));
@@ -229,6 +233,71 @@ static void values(void) {
     want("loaded again", 0, psci_guest_load(&guest, saved, WORDS));
 }
 
+/* What is told of a turn: of the caller, of the core that entered, and of the stop. */
+static void told(const char *what, uint32_t life, uint32_t caller, uint32_t entry, struct psci_ctl_start start) {
+    uint64_t words[WORDS];
+    want(what, PSCI_GUEST_TURNED, turn.what);
+    want(what, life, turn.life);
+    want(what, caller, turn.caller.what);
+    want(what, entry, turn.entry.what);
+    want(what, start.core, turn.start.core);
+    want(what, start.life, turn.start.life);
+    want(what, start.number, turn.start.number);
+    want(what, start.cause, turn.start.cause);
+    must_save(&guest, words);
+    for (size_t at = SLOTS; at < FIRMWARE; at++)
+        want("nothing is outstanding", 0, words[at]);
+}
+
+static uint32_t stop_told(void) {
+    return (uint32_t)turn.stop.depths[0] << 16 | turn.stop.depths[1] << 12 | turn.stop.depths[2] << 8
+        | turn.stop.depths[3] << 4 | turn.stop.wakes;
+}
+
+/* A turn of each kind in two lives, and each refusal. */
+static void turns(void) {
+    const struct psci_ctl_start nobody = {0};
+    open_guest(&guest);
+    told("the boot core", 1, 0, PSCI_ENTER, (struct psci_ctl_start){0, 1, 1, PSCI_CAUSE_BOOT});
+    want("enters where the board says", 0x40000000, turn.entry.address);
+    call(&guest, 0, 0xc4000003, 0x101, 0x40001000);
+    told("core 3 is started", 1, PSCI_RETURN, PSCI_ENTER, (struct psci_ctl_start){3, 1, 1, PSCI_CAUSE_ON});
+    want("by a Start", 0x203, turn.caller.message.bytes[2] << 8 | turn.caller.message.bytes[3]);
+    want("enters where the caller says", 0x40001000, turn.entry.address);
+    want("with its context", 7, turn.entry.context);
+    want("a call that does not stop", 0, stop_told());
+    psci_guest_wake(&guest, 3, &turn);
+    told("a wake-up of one that runs", 1, 0, 0, nobody);
+    psci_guest_call(&guest, 3, 2, 0x84000000, 0, 0, 0, &turn);
+    want("a call in another life", PSCI_NOT_RUNNING, turn.what);
+    want("tells of no life", 0, turn.life);
+    call(&guest, 3, 0xc4000001, 0x01010033, 0x40002000);
+    told("core 3 suspends", 1, PSCI_STOP, 0, nobody);
+    want("with its cluster, and may be woken", 0x33001, stop_told());
+    want("a call in its stop", PSCI_NOT_RUNNING, call(&guest, 3, 0x84000000, 0, 0));
+    psci_guest_wake(&guest, 3, &turn);
+    told("core 3 is woken", 1, 0, PSCI_ENTER, (struct psci_ctl_start){3, 1, 2, PSCI_CAUSE_WAKE});
+    want("enters where it asked", 0x40002000, turn.entry.address);
+    call(&guest, 3, 0x84000002, 0, 0);
+    told("core 3 goes off", 1, PSCI_STOP, 0, nobody);
+    want("with its cluster, and may not be woken", 0x33000, stop_told());
+    psci_guest_wake(&guest, 3, &turn);
+    told("it is woken all the same, and parks", 1, 0, PSCI_STOP, (struct psci_ctl_start){3, 1, 3, PSCI_CAUSE_WAKE});
+    want("by a Down", 0x103, turn.entry.message.bytes[2] << 8 | turn.entry.message.bytes[3]);
+    psci_guest_reset(&guest, 3, &turn);
+    told("it is reset, and parks", 1, 0, PSCI_STOP, (struct psci_ctl_start){3, 1, 4, PSCI_CAUSE_RESET});
+    call(&guest, 0, 0xc4000003, 0x101, 0x40001000);
+    told("it is started again", 1, PSCI_RETURN, PSCI_ENTER, (struct psci_ctl_start){3, 1, 5, PSCI_CAUSE_ON});
+    call(&guest, 3, 0x84000009, 0, 0);
+    told("it resets the system", 2, PSCI_STOP, PSCI_ENTER, (struct psci_ctl_start){0, 2, 1, PSCI_CAUSE_BOOT});
+    want("a call behind the end of its life", PSCI_NOT_RUNNING, call(&guest, 3, 0x84000000, 0, 0));
+    psci_guest_call(&guest, 0, 2, 0x84000008, 0, 0, 0, &turn);
+    told("the system is off", 0, PSCI_STOP, 0, nobody);
+    psci_guest_wake(&guest, 0, &turn);
+    told("and stays off", 0, 0, 0, nobody);
+    psci_guest_close(&guest);
+}
+
 /* The other one goes on as this one does. */
 static void loading(void) {
     uint64_t words[WORDS];
@@ -282,6 +351,7 @@ int main(void) {
     void *memory = malloc(size);
     pool_give(memory, size);
     empty_place();
+    turns();
     saving();
     not_loaded();
     values();

@@ -268,6 +268,11 @@ static void stops(void) {
     want("opened", PSCI_OPENED, open_text(small));
     enter(0, 1, 1, PSCI_CAUSE_BOOT);
     want("a core that runs", 0, stop_of(0, 0xc4000001));
+    smc(0, 0xc4000003, 0x001, 0x40001000, 7);
+    want("by a Start", 0, stop_of(1, 0xc4000001));
+    enter(1, 1, 1, PSCI_CAUSE_ON);
+    smc(1, 0x84000002, 0, 0, 0);
+    take_changed(12, 1, PSCI_FRAME_LEN);
     want("all go down", PSCI_STOP, smc(0, 0xc4000001, 0x02010333, 0x40000000, 0));
     want("by CPU_SUSPEND of 64 bits", 0x33301, stop_of(0, 0xc4000001));
     want("by that of 32 bits", 0x33301, stop_of(0, 0x84000001));
@@ -304,6 +309,13 @@ static void frames(void) {
     want("the second", 1, fields.parts[1].level == 1 && fields.parts[1].depth == 2
         && fields.parts[1].generation == 19);
     want("no third", 0, fields.parts[2].level + fields.parts[2].depth + fields.parts[2].generation);
+    fields.count = 3, fields.parts[2].level = 2, fields.parts[2].depth = 1, fields.parts[2].generation = 20;
+    make(do_encode);
+    fields = (struct psci_message){0};
+    make(do_decode);
+    want("of three parts", 3, fields.count);
+    want("the third", 1, fields.parts[2].level == 2 && fields.parts[2].depth == 1 && fields.parts[2].generation == 20);
+    want("no fourth", 0, fields.parts[3].level + fields.parts[3].depth + fields.parts[3].generation);
     length = 52;
     make(do_decode);
     want("a short frame", PSCI_FRAME_LENGTH, code);
@@ -320,10 +332,130 @@ static void frames(void) {
     NONE("five parts", fields.count = 5);
     NONE("no core in a byte", (fields.count = 1, fields.core = 256));
     NONE("a depth of 4", (fields.core = 3, fields.parts[0].depth = 4));
+    NONE("a part deeper than the one below it", (fields.count = 2, fields.parts[0].depth = 1));
 #undef NONE
-    fields.parts[0].depth = 3;
+    fields.count = 1, fields.parts[0].depth = 3;
     make(do_encode);
     want("a frame again", 1, frame.it.some);
+    make(do_close);
+}
+
+/* What is read of cores that run, are pending or off, and of their clusters; and of a life that ends. */
+static void readers(void) {
+    want("opened", PSCI_OPENED, open_text(small));
+    enter(0, 1, 1, PSCI_CAUSE_BOOT);
+    smc(0, 0xc4000003, 0x001, 0x40001000, 7);
+    want("core 1 is asked on", PSCI_STATUS_PENDING, psci_status(&place.it, 0, 1));
+    want("its hardware", PSCI_HW_ON, psci_hw(&place.it, 0, 1));
+    want("its grant", 0, psci_granted(&place.it, 0, 1));
+    want("that of the other cluster", 3, psci_granted(&place.it, 1, 1));
+    want("no start of its is known", 0, psci_known(&place.it, 1));
+    want("one of core 0 is", 1, psci_known(&place.it, 0));
+    want("it does not run", 0, psci_running(&place.it, 1));
+    want("core 0 does", 1, psci_running(&place.it, 0));
+    want("it goes on", 0, psci_halting(&place.it));
+    want("off", PSCI_STOP, smc(0, 0x84000008, 0, 0, 0));
+    want("it halts", 1, psci_halting(&place.it));
+    make(do_close);
+}
+
+/* A machine whose last core boots. Its cluster has a state in standby, two in retention, and others that power down. */
+static const struct psci_board clusters = {
+    .height = 2, .starts = 3, .lives = 3, .boot = 0x40000000, .many_ranges = 1,
+    .ranges = {{0x40000000, 0x40100000}}, .levels = {{2, {2, 2}}, {1, {2}}},
+};
+static const struct psci_machine plain_machine = {
+    .levels = 2, .functions = 0xff, .many_mpidrs = 4, .many_rows = 4, .many_resets = 3, .standby = {0, 1},
+    .retention = {0, 2}, .system = {1, 4, 1}, .resets = {0x80000005, 0x80000006, 0x80000007},
+    .rows = {{0x01010001, UINT32_MAX, {1, 1}}, {0x01010002, UINT32_MAX, {1, 2}}, {0x01010003, UINT32_MAX, {1, 3}},
+             {0x01010100, 0xffffff00, {1, 4}}},
+    .mpidrs = {0x10000, 0x10001, 0x10100, 0x10101},
+};
+
+static uint32_t open_machine(const struct psci_board *given, const struct psci_machine *machine, uint64_t boot) {
+    return psci_open_machine(&place.it, given, machine, boot);
+}
+
+/* What its calls are to the firmware, what they ask besides, where a node is, and a poll in its words. */
+static void machines(void) {
+    static const struct { uint32_t word, state, depth; } words[] = {
+        {0x01010001, 1, 1}, {0x01010002, 2, 2}, {0x01010003, 3, 2}, {0x010101ff, 4, 3}};
+    for (size_t at = 0; at < sizeof words / sizeof *words; at++) {
+        want("a machine", PSCI_OPENED, open_machine(&clusters, &plain_machine, 0x10101));
+        enter(0, 1, 1, PSCI_CAUSE_BOOT);
+        if (words[at].state == 3) {
+            want("the second in retention", PSCI_RETURN, smc(0, 0xc4000001, words[at].word, 0x40000000, 7));
+            want("is not coordinated by the platform", (uint32_t)-2, (uint32_t)answer.it.code);
+            want("nor asked", PSCI_ASKS_NOTHING, answer.it.asked.what);
+            smc(0, 0x8400000f, 1, 0, 0);
+        }
+        want("suspended", PSCI_STOP, smc(0, 0xc4000001, words[at].word, 0x40000000, 7));
+        want("with its cluster", 0x30001 + (words[at].depth << 12), stop_of(0, 0xc4000001));
+        want("states are asked", PSCI_ASKS_STATES, answer.it.asked.what);
+        want("that of the cluster", words[at].state, answer.it.asked.states[1]);
+    }
+    want("a machine again", PSCI_OPENED, open_machine(&clusters, &plain_machine, 0x10101));
+    want("its first core", 3, psci_place_of(&place.it, 0, 0));
+    want("its first cluster", 1, psci_place_of(&place.it, 1, 0));
+    want("the system", 0, psci_place_of(&place.it, 2, 0));
+    want("the MPIDR of its last core", 0x10000, psci_mpidr_of(&place.it, 3));
+    want("and its number", 3, psci_core_of(&place.it, 0x10000));
+    want("a poller", PSCI_OPENED, open_poller());
+    enter(0, 1, 1, PSCI_CAUSE_BOOT);
+    want("the boot core is on", PSCI_STATUS_ON, poll_core(0x10101));
+    want("another one is not", PSCI_STATUS_OFF, poll_core(0x10000));
+    want("no core of the machine", (uint32_t)-2, (uint32_t)poll_core(0));
+    want("its cluster, by any core of it", PSCI_STATUS_ON, smc(0, 0xc4000004, 0x101ff, 1, 0) ? 9 : answer.it.code);
+    want("another one, in 32 bits", PSCI_RETURN, smc(0, 0x84000003, 0x7700010000, 0x40001000, 7));
+    want("is asked on by its number", 3, answer.it.message.bytes[3]);
+    for (uint32_t type = 0x80000005; type <= 0x80000007; type++) {
+        want("a reset of the vendor", PSCI_STOP, smc(0, 0xc4000012, type, 0, 0));
+        want("is asked", PSCI_ASKS_RESET, answer.it.asked.what);
+        want("by its type", type, answer.it.asked.reset);
+        enter(0, type - 0x80000003, 1, PSCI_CAUSE_BOOT);
+    }
+    make(do_close_poller);
+    make(do_close);
+}
+
+/* The first fault of a machine, also of two; what is none; and functions that are not there. */
+static void faulty_machines(void) {
+    struct psci_board tall = {
+        .height = 3, .starts = 3, .lives = 3, .boot = 0x40000000, .many_ranges = 1,
+        .ranges = {{0x40000000, 0x40100000}}, .levels = {{2, {2, 2}}, {1, {2}}, {1, {1}}},
+    };
+    struct psci_board three = {
+        .height = 2, .starts = 3, .lives = 3, .boot = 0x40000000, .many_ranges = 1,
+        .ranges = {{0x40000000, 0x40100000}}, .levels = {{3, {2, 2, 2}}, {1, {3}}},
+    };
+    struct psci_machine given;
+#define FAULT(name, wanted, change) \
+    given = plain_machine, change, want(name, wanted, open_machine(&clusters, &given, 0x10101))
+    FAULT("a row too many", PSCI_MACHINE_NO_ROOM, given.many_rows = PSCI_MOST_ROWS + 1);
+    FAULT("a bit outside, and two of one MPIDR", PSCI_MACHINE_BAD_MPIDR,
+          (given.mpidrs[0] = 0x1000000, given.mpidrs[1] = given.mpidrs[2]));
+    FAULT("no boot core, and too many levels", PSCI_MACHINE_NO_BOOT_CORE, (given.mpidrs[3] = 5, given.levels = 3));
+    FAULT("a reserved bit", PSCI_MACHINE_BAD_WORD, given.rows[0].word = 0x05010001);
+    FAULT("a reserved bit, and one word twice", PSCI_MACHINE_BAD_WORD,
+          (given.rows[0].word = 0x02020000, given.rows[1] = given.rows[2]));
+    FAULT("a word of another type, and no power state", PSCI_MACHINE_WRONG_TYPE,
+          (given.rows[0].word = 0x01000001, given.rows[1].states[0] = 16));
+    FAULT("a state that there is not", PSCI_MACHINE_BAD_STATES, given.rows[0].states[1] = 16);
+    FAULT("a system of which the core goes on", PSCI_MACHINE_BAD_SYSTEM, given.system[0] = 0);
+    FAULT("one that does not go down, and no CPU_SUSPEND", PSCI_MACHINE_BAD_SYSTEM,
+          (given.system[2] = 0, given.functions -= PSCI_HAS_CPU_SUSPEND));
+    FAULT("a system above the levels", PSCI_MACHINE_BAD_SYSTEM, (given.levels = 1, given.system[2] = 0));
+    FAULT("an MPIDR of 40 bits", PSCI_OPENED, given.mpidrs[0] = 0x7700000000);
+    FAULT("no CPU_OFF and no CPU_SUSPEND", PSCI_OPENED, given.functions = PSCI_HAS_CPU_ON + PSCI_HAS_SYSTEM_RESET2);
+#undef FAULT
+    enter(0, 1, 1, PSCI_CAUSE_BOOT);
+    want("CPU_OFF", (uint32_t)-1, smc(0, 0x84000002, 0, 0, 0) ? 0 : (uint32_t)answer.it.code);
+    want("PSCI_SET_SUSPEND_MODE", (uint32_t)-1, smc(0, 0x8400000a, 0x8400000f, 0, 0) ? 0 : (uint32_t)answer.it.code);
+    given = plain_machine, given.functions -= PSCI_HAS_SYSTEM_SUSPEND, given.rows[3].states[3] = 1;
+    want("a state above the levels", PSCI_MACHINE_BAD_STATES, open_machine(&tall, &given, 0x10101));
+    given = plain_machine, given.many_mpidrs = 6, given.mpidrs[4] = 0x10200, given.mpidrs[5] = 0x10201;
+    want("a cluster that is on no path", PSCI_OPENED, open_machine(&three, &given, 0x10101));
+    want("stays where it is", 4, psci_place_of(&place.it, 0, 4));
     make(do_close);
 }
 
@@ -617,6 +749,7 @@ static void largest_board(void) {
     want("woken again", PSCI_ENTER, enter(0, 1, 3, PSCI_CAUSE_WAKE));
     want("reset", PSCI_STOP, smc(0, 0x84000009, 0, 0, 0));
     want("the next life", PSCI_ENTER, enter(0, 2, 1, PSCI_CAUSE_BOOT));
+    want("is life 2", 2, psci_life(&place.it));
     make(do_close);
 }
 
@@ -634,6 +767,9 @@ int main(void) {
     pool_give(memory, size);
     boards();
     stops();
+    readers();
+    machines();
+    faulty_machines();
     frames();
     pool_give(memory, size);
     beside_calls();

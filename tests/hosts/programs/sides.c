@@ -405,6 +405,75 @@ static void refusals(void) {
          psci_control_depth(&empty, 0, 0) == PSCI_NO_FIRMWARE, "readers of an empty place", none.number);
 }
 
+/* Looks that no run comes to, and turns from elsewhere. */
+static void corners(void) {
+    const struct psci_port_core stands = {.core = 1, .used = 2, .told = 2, .cause = PSCI_CAUSE_ON, .stop = PSCI_PORT_SUSPENDED};
+    struct psci_port_core side = stands;
+    struct psci_port_door door = {.opened = 2};
+    hold(psci_port_look(&side, &door, true) == PSCI_PORT_RESTS && memcmp(&side, &stands, sizeof side) == 0, "it has told",
+         side.told);
+    side.told = 1;
+    hold(psci_port_look(&side, &door, true) == PSCI_PORT_TELLS && side.told == 2, "it has not told", side.told);
+    door.opened = 1;
+    hold(psci_port_look(&side, &door, true) == PSCI_PORT_TAKES_UP && side.used == 1 && side.post == PSCI_PORT_WAITING,
+         "a door without a start", side.post);
+    hold(psci_port_turns(&side) == PSCI_PORT_OUT_OF_ORDER, "one that waits turns", side.post);
+    side.post = PSCI_PORT_ARMED;
+    hold(psci_port_rouses(&side) == PSCI_PORT_OUT_OF_ORDER && side.post == PSCI_PORT_ARMED, "one that is armed is roused",
+         side.post);
+}
+
+/* What a call leaves of what no call wrote, by a firmware that refuses it, and by one that does not; and SYSTEM_OFF. */
+static void monitors(void) {
+    struct psci_place own = {0};
+    struct psci_answer answer;
+    struct psci_port_orders orders;
+    struct psci_port_core side = {.post = PSCI_PORT_RUNNING, .used = 1, .start = {9, 9, 9, PSCI_CAUSE_ON}}, before = side;
+    hold(psci_open_board(&own, &board) == PSCI_OPENED, "a firmware of its own", 0);
+    psci_port_call(&own, &side, 0x84000000, 0, 0, 0, &orders);
+    hold(orders.next == PSCI_NO_LIFE && memcmp(&side, &before, sizeof side) == 0, "a refusal", orders.next);
+    psci_enter(&own, 0, 1, 1, PSCI_CAUSE_BOOT, &answer);
+    psci_port_enter(&own, &side, &orders);
+    hold(orders.next == PSCI_PORT_OUT_OF_ORDER && memcmp(&side, &before, sizeof side) == 0, "one that runs enters", orders.next);
+    psci_port_call(&own, &side, 0x84000000, 0, 0, 0, &orders);
+    hold(orders.next == PSCI_PORT_LEAVES && side.start.number == 0 && side.start.life == 0, "a start of one that runs",
+         side.start.number);
+    psci_port_call(&own, &side, 0x84000008, 0, 0, 0, &orders);
+    hold(orders.next == PSCI_PORT_STANDS && orders.stop == PSCI_PORT_ENDING && side.stop == PSCI_PORT_ENDING, "off", orders.stop);
+    psci_close(&own);
+}
+
+/* What comes of a message of core 0 of this kind and number, of as many parts, in the last life of a board of three levels;
+ * before or after the core has said that it stands. */
+static struct psci_control_orders in_last_life(uint8_t kind, uint32_t number, uint8_t parts, bool stands) {
+    static const struct psci_board tall = {
+        .height = 3, .starts = 9, .lives = 1, .boot = 0x40000000, .many_ranges = 1, .ranges = {{0x40000000, 0x80000000}},
+        .levels = {{1, {1}}, {1, {1}}, {1, {1}}},
+    };
+    struct psci_message message = {.kind = kind, .count = parts, .life = 1, .number = number,
+                                   .parts = {{0, 3, 1}, {1, 3, 1}, {2, 2, 1}, {3, 1, 1}}};
+    struct psci_control_place own = {0};
+    struct psci_control_orders orders;
+    struct psci_frame frame;
+    psci_encode(&message, &frame);
+    hold(psci_control_open_board(&own, &tall) == PSCI_OPENED && frame.some, "a controller of its own", kind);
+    if (stands)
+        psci_control_stands(&own, 0, 1);
+    psci_control_message(&own, frame.bytes, PSCI_FRAME_LEN, &orders);
+    psci_control_close(&own);
+    return orders;
+}
+
+static void last_life(void) {
+    struct psci_control_orders down = in_last_life(PSCI_MESSAGE_DOWN, 1, 4, true);
+    hold(down.what == PSCI_CONTROL_ORDERS && down.many == 4, "a whole path goes down", down.many);
+    hold(down.domains[2].depth == 2 && down.domains[3].level == 3 && down.domains[3].depth == 1, "up to the system",
+         down.domains[3].level);
+    hold(in_last_life(PSCI_MESSAGE_DOWN, 2, 1, false).what == PSCI_CONTROL_WAITS, "a Down waits by its generation", 2);
+    hold(in_last_life(PSCI_MESSAGE_OFF, 1, 0, true).ends == PSCI_CONTROL_OFF, "off", 0);
+    hold(in_last_life(PSCI_MESSAGE_RESET, 1, 0, true).ends == PSCI_CONTROL_OFF, "a reset in the last life", 0);
+}
+
 /* Who is rung does not stand, and is none where all do. */
 static void rings(void) {
     uint16_t rung = psci_control_rings(&control);
@@ -465,6 +534,9 @@ int main(int many, char **words) {
     hold(many == 3, "sides SEED STEPS", many);
     seed = strtoull(words[1], NULL, 0);
     guest();
+    corners();
+    monitors();
+    last_life();
     power_on();
     refusals();
     for (unsigned long left = strtoul(words[2], NULL, 0); left > 0; left--) {
