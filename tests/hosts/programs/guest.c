@@ -18,6 +18,8 @@ static void want(const char *what, uint64_t wanted, uint64_t got) {
 
 #define REST " exec 0x40000000-0x40100000 boot 0x40000000 starts 200 lives 2"
 enum { ROUND = 0x5a, FIRMWARE = 103, WORDS = FIRMWARE + 14, CORES = 5, DOMAINS = 13, MANY_DOMAINS = 7, ROWS = 27, SLOTS = 43 };
+/* of the domains: four cores, two clusters, the system, and what is confirmed of each behind all of them */
+enum { GRANTED = DOMAINS, CLUSTERS = DOMAINS + 4, SYSTEM = DOMAINS + 6, CONFIRMED = DOMAINS + 7 };
 static const char board[] = "(2 2)" REST;
 static struct psci_guest_place guest, other;
 static struct psci_guest_turn turn;
@@ -49,15 +51,32 @@ static uint64_t sum_of(const uint64_t *words, size_t count) {
     return sum;
 }
 
-/* Loads the words with this one in a place, and with their sums. */
-static uint32_t load_with(size_t at, uint64_t word) {
-    uint64_t changed[WORDS];
-    memcpy(changed, saved, sizeof changed);
-    changed[at] = word;
+/* A word in another place than it is saved in. */
+struct change {
+    size_t at;
+    uint64_t word;
+};
+
+/* The saved words with these in their places, and with their sums. */
+static void change(uint64_t *changed, const struct change *those, size_t count) {
+    memcpy(changed, saved, sizeof saved);
+    for (size_t each = 0; each < count; each++)
+        changed[those[each].at] = those[each].word;
     changed[1] = sum_of(changed + 2, FIRMWARE - 2);
     changed[FIRMWARE + 1] = sum_of(changed + FIRMWARE + 2, WORDS - FIRMWARE - 2);
+}
+
+static uint32_t load_with(size_t at, uint64_t word) {
+    uint64_t changed[WORDS];
+    change(changed, &(struct change){at, word}, 1);
     return psci_guest_load(&guest, changed, WORDS);
 }
+
+/* Where the words of core CORE begin: what it does, its row, its slot. */
+#define DOES(CORE) (CORES + 2 * (CORE))
+#define ROW(CORE) (ROWS + 4 * (CORE))
+#define SLOT(CORE) (SLOTS + 12 * ((CORE) + 1))
+#define AWAY ((uint64_t)1 << 32)
 
 static void empty_place(void) {
     uint64_t words[WORDS] = {ROUND};
@@ -84,7 +103,45 @@ static void saving(void) {
     want("the format", 0x177667370, words[0]);
     want("the power controller's", 0x16c746370, words[FIRMWARE]);
     must_save(&guest, saved);
+    /* cores 0 and 3 run in their first start, core 1 is off after its first, core 2 was never started */
+    const uint64_t wanted[ROWS - 2] = {1, 0, 0, 0, 1, AWAY, 1, AWAY, 0, 0, 1, 0, 3, 3, 0, 0, 0, 0, 0, 3, 3, 0, 0, 0, 0};
+    for (size_t at = 2; at < ROWS; at++)
+        want("what is saved of cores and domains", wanted[at - 2], words[at]);
+    for (size_t at = ROWS; at < FIRMWARE; at++)
+        want("what is saved of rows and slots", at == ROW(1) || at == ROW(2), words[at]);
 }
+
+/* Words that no guest is saved as, by the first fault that they have. */
+static const struct refused {
+    const char *what;
+    uint32_t fault;
+    struct change those[8];
+} refused[] = {
+    {"the last core does nothing", PSCI_GUEST_CORE, {{DOES(3), 9}}},
+    {"standby, and more than a power state has", PSCI_GUEST_CORE, {{DOES(0), AWAY + 1}}},
+    {"a known start of 33 bits", PSCI_GUEST_CORE, {{DOES(0) + 1, AWAY}}},
+    {"a power state of a level that the board has not", PSCI_GUEST_VALUES, {{DOES(0), 0x40003333}}},
+    {"the first cluster deeper than its first core", PSCI_GUEST_DEPTH, {{CLUSTERS, 1}}},
+    {"the last cluster deeper than its last core", PSCI_GUEST_DEPTH, {{CLUSTERS + 1, 1}}},
+    {"the system deeper than its clusters", PSCI_GUEST_DEPTH, {{SYSTEM, 1}}},
+    {"core 1 deeper than power-down", PSCI_GUEST_DEPTH, {{DOMAINS + 1, 4}}},
+    {"the first core confirmed, and nothing granted", PSCI_GUEST_DEPTH, {{CONFIRMED, 1}}},
+    {"core 1 confirmed deeper than granted", PSCI_GUEST_DEPTH, {{DOMAINS + 1, 2}}},
+    {"the system confirmed, and nothing granted", PSCI_GUEST_DEPTH, {{CONFIRMED + 6, 1}}},
+    {"no message, and a core", PSCI_GUEST_MESSAGE, {{SLOTS + 1, 1}}},
+    {"no message, and a part", PSCI_GUEST_MESSAGE, {{SLOT(3) + 4, 3}, {SLOT(3) + 5, 1}}},
+    {"a message of core 256", PSCI_GUEST_MESSAGE, {{SLOT(0), 2}, {SLOT(0) + 1, 256}, {SLOT(0) + 2, 1}}},
+    {"a message of a life of 33 bits", PSCI_GUEST_MESSAGE, {{SLOT(0), 2}, {SLOT(0) + 2, AWAY}}},
+    {"a message of a number of 33 bits", PSCI_GUEST_MESSAGE, {{SLOT(0), 2}, {SLOT(0) + 3, AWAY}}},
+    {"a Down without parts", PSCI_GUEST_MESSAGE, {{SLOT(0), 1}, {SLOT(0) + 2, 1}, {SLOT(0) + 3, 1}}},
+    {"a Start with a part", PSCI_GUEST_MESSAGE, {{SLOT(0), 2}, {SLOT(0) + 2, 1}, {SLOT(0) + 4, 3}, {SLOT(0) + 5, 1}}},
+    {"a part deeper than the one below it", PSCI_GUEST_MESSAGE,
+     {{SLOT(0), 1}, {SLOT(0) + 2, 1}, {SLOT(0) + 4, 1}, {SLOT(0) + 5, 1}, {SLOT(0) + 6, 2}, {SLOT(0) + 7, 1}}},
+    {"a part deeper than power-down", PSCI_GUEST_MESSAGE,
+     {{SLOT(0), 1}, {SLOT(0) + 2, 1}, {SLOT(0) + 4, 4}, {SLOT(0) + 5, 1}}},
+    {"a generation of no part", PSCI_GUEST_MESSAGE,
+     {{SLOT(0), 1}, {SLOT(0) + 2, 1}, {SLOT(0) + 4, 3}, {SLOT(0) + 5, 1}, {SLOT(0) + 7, 1}}},
+};
 
 /* Words with a fault, each of whose bits is seen; nothing changes. */
 static void not_loaded(void) {
@@ -114,13 +171,20 @@ static void not_loaded(void) {
     want("no opening, and a context", PSCI_GUEST_ROW, load_with(ROWS + 3, 1));
     want("a message of no kind", PSCI_GUEST_MESSAGE, load_with(SLOTS, 5));
     want("an opening for a core that runs", PSCI_GUEST_VALUES, load_with(ROWS + 1, 1));
+    for (size_t each = 0; each < sizeof refused / sizeof *refused; each++) {
+        uint64_t changed[WORDS];
+        size_t count = 0;
+        while (count < 8 && refused[each].those[count].at)
+            count++;
+        change(changed, refused[each].those, count);
+        want(refused[each].what, refused[each].fault, psci_guest_load(&guest, changed, WORDS));
+    }
     want("the controller's life too late", PSCI_SAVED_LIFE, load_with(FIRMWARE + 2, 3));
     want("a domain of it too deep", PSCI_SAVED_DEPTH, load_with(WORDS - 1, 4));
     unchanged();
 }
 
 /* Words of a firmware, made from those that were saved: the power controller's stay. */
-enum { GRANTED = DOMAINS, CONFIRMED = 20 };
 static uint64_t made[WORDS];
 
 /* No core has entered: core 0 is pending at the boot address, and all beside its path is off. */
@@ -298,6 +362,32 @@ static void turns(void) {
     psci_guest_close(&guest);
 }
 
+/* Words that no turn leaves and that are loaded: messages of each kind that wait, what is granted and not confirmed, a
+ * core in its 200th start, another one suspended with its cluster. They are saved again as they are. */
+static void loading_all(void) {
+    static const struct change those[] = {
+        {DOES(0) + 1, 200}, {DOES(3), 0x40000033}, {DOMAINS + 3, 3}, {CLUSTERS + 1, 3}, {CONFIRMED + 1, 0},
+        {ROW(3) + 1, 1}, {ROW(3) + 2, 0x40002000}, {ROW(3) + 3, 9},
+        {SLOTS, 4}, {SLOTS + 1, 255}, {SLOTS + 2, 1}, {SLOTS + 3, 5},
+        {SLOT(0), 2}, {SLOT(0) + 2, AWAY - 1}, {SLOT(0) + 3, AWAY - 2},
+        {SLOT(1), 1}, {SLOT(1) + 1, 1}, {SLOT(1) + 2, 1}, {SLOT(1) + 3, 6}, {SLOT(1) + 4, 3}, {SLOT(1) + 5, 11},
+        {SLOT(1) + 6, 2}, {SLOT(1) + 7, ~(uint64_t)0}, {SLOT(1) + 8, 2}, {SLOT(1) + 9, 13}, {SLOT(1) + 10, 1},
+        {SLOT(1) + 11, 14},
+        {SLOT(2), 3}, {SLOT(2) + 1, 2}, {SLOT(2) + 2, 2}, {SLOT(2) + 3, 7},
+    };
+    uint64_t changed[WORDS], words[WORDS];
+    open_guest(&other);
+    change(changed, those, sizeof those / sizeof *those);
+    want("loaded as no turn leaves it", 0, psci_guest_load(&other, changed, WORDS));
+    must_save(&other, words);
+    for (size_t at = 0; at < WORDS; at++)
+        want("saved as it was loaded", changed[at], words[at]);
+    want("words without a message", 0, psci_guest_load(&other, saved, WORDS));
+    must_save(&other, words);
+    want("no message is left", 0, memcmp(words, saved, sizeof saved));
+    psci_guest_close(&other);
+}
+
 /* The other one goes on as this one does. */
 static void loading(void) {
     uint64_t words[WORDS];
@@ -355,6 +445,7 @@ int main(void) {
     saving();
     not_loaded();
     values();
+    loading_all();
     loading();
     little_memory();
     free(memory);

@@ -459,6 +459,94 @@ static void faulty_machines(void) {
     make(do_close);
 }
 
+/* A Down of the whole path on the board (2 2), as FORMATS has frames. */
+static const uint8_t down_frame[PSCI_FRAME_LEN] = {
+    0x50, 0x44, 1, 3, 0x01, 0x02, 0x03, 0x04, 0x05, 0x06, 0x07, 0x08, 2,
+    0, 3, 0x11, 0x12, 0x13, 0x14, 0x15, 0x16, 0x17, 0x18,
+    1, 2, 0x21, 0x22, 0x23, 0x24, 0x25, 0x26, 0x27, 0x28,
+};
+
+/* Its bytes with some changed, by the first fault that they have: of two the one that is told. */
+static const struct faulty {
+    const char *what;
+    uint32_t fault;
+    uint8_t change[4][2]; /* where, and to what; 0 ends them */
+} faulty[] = {
+    {"another first byte", PSCI_FRAME_MAGIC, {{1, 0x45}, {2, 5}}},
+    {"no such kind", PSCI_FRAME_KIND, {{2, 5}, {12, 5}}},
+    {"a kind byte of no kind", PSCI_FRAME_KIND, {{2, 0x20}}},
+    {"a kind byte above the stale ones", PSCI_FRAME_KIND, {{2, 0x31}}},
+    {"a Down of no part", PSCI_FRAME_COUNT, {{12, 0}, {3, 4}}},
+    {"a Down of five parts", PSCI_FRAME_COUNT, {{12, 5}}},
+    {"a Start of one part", PSCI_FRAME_COUNT, {{2, 2}, {12, 1}}},
+    {"an Off of one part", PSCI_FRAME_COUNT, {{2, 3}, {12, 1}}},
+    {"five parts applied", PSCI_FRAME_COUNT, {{2, 0x11}, {12, 5}}},
+    {"a Reset carried out twice", PSCI_FRAME_COUNT, {{2, 0x24}, {12, 2}}},
+    {"a part that is not counted", PSCI_FRAME_UNUSED, {{12, 1}, {3, 4}}},
+    {"an acknowledgement with parts", PSCI_FRAME_UNUSED, {{2, 0x11}}},
+    {"the last byte set", PSCI_FRAME_UNUSED, {{52, 1}}},
+    {"the last of eight bytes set, and no such core", PSCI_FRAME_UNUSED, {{40, 1}, {3, 4}}},
+    {"no such core", PSCI_FRAME_CORE, {{3, 4}, {14, 4}}},
+    {"deeper than power-down", PSCI_FRAME_DEPTH, {{14, 4}, {13, 1}}},
+    {"deeper than the part before", PSCI_FRAME_DEPTH, {{24, 3}, {14, 2}}},
+    {"no depth", PSCI_FRAME_DEPTH, {{24, 0}}},
+    {"no part of the core", PSCI_FRAME_LEVEL, {{13, 1}, {23, 2}}},
+    {"a level left out", PSCI_FRAME_LEVEL, {{23, 2}}},
+    {"a level twice", PSCI_FRAME_LEVEL, {{23, 0}}},
+};
+
+static void read_frame(const uint8_t *bytes) {
+    memcpy(frame.it.bytes, bytes, PSCI_FRAME_LEN);
+    length = PSCI_FRAME_LEN;
+    make(do_decode);
+}
+
+/* Frames byte by byte, and what is no frame. */
+static void frame_bytes(void) {
+    static const struct psci_message down = {
+        .kind = PSCI_MESSAGE_DOWN, .count = 2, .core = 3, .life = 0x01020304, .number = 0x05060708,
+        .parts = {{0, 3, 0x1112131415161718}, {1, 2, 0x2122232425262728}}};
+    uint8_t bytes[PSCI_FRAME_LEN];
+    want("opened", PSCI_OPENED, open_text(small));
+    fields = down;
+    make(do_encode);
+    want("the bytes of a Down", 0, memcmp(frame.it.bytes, down_frame, sizeof down_frame));
+    fields = (struct psci_message){0};
+    read_frame(down_frame);
+    want("a Down is read", PSCI_USED, code);
+    make(do_encode);
+    want("as it is written", 0, memcmp(frame.it.bytes, down_frame, sizeof down_frame));
+    for (size_t each = 0; each < sizeof faulty / sizeof *faulty; each++) {
+        memcpy(bytes, down_frame, sizeof bytes);
+        for (size_t at = 0; at < 4 && faulty[each].change[at][0]; at++)
+            bytes[faulty[each].change[at][0]] = faulty[each].change[at][1];
+        read_frame(bytes);
+        want(faulty[each].what, faulty[each].fault, code);
+    }
+    /* four parts are for three levels above the core, of which this board has two */
+    memcpy(bytes, down_frame, sizeof bytes);
+    bytes[12] = 4, bytes[33] = 2, bytes[34] = 2, bytes[43] = 3, bytes[44] = 1;
+    read_frame(bytes);
+    want("a level above the board", PSCI_FRAME_LEVEL, code);
+    for (uint8_t kind = PSCI_MESSAGE_START; kind <= PSCI_MESSAGE_RESET; kind++)
+        for (uint8_t of = 0; of <= PSCI_STALE_ACK; of += PSCI_ACK) {
+            memset(bytes + 12, 0, sizeof bytes - 12);
+            bytes[2] = kind + of, bytes[12] = of != 0;
+            read_frame(bytes);
+            want("a frame without parts", PSCI_USED, code);
+            want("its kind", kind + of, fields.kind);
+            make(do_encode);
+            want("its bytes", 0, memcmp(frame.it.bytes, bytes, sizeof bytes));
+        }
+    make(do_close);
+    want("opened", PSCI_OPENED, open_text(large));
+    bytes[3] = 255;
+    read_frame(bytes);
+    want("the last core of 256", PSCI_USED, code);
+    want("is read", 255, fields.core);
+    make(do_close);
+}
+
 /* With ever less memory an opening fails, and changes nothing; with what pool_size says it does
  * not. It gives all its memory back: the pool would not last for a thousand. */
 static void little_memory(void) {
@@ -771,6 +859,7 @@ int main(void) {
     machines();
     faulty_machines();
     frames();
+    frame_bytes();
     pool_give(memory, size);
     beside_calls();
     long_starts();
