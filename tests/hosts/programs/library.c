@@ -1,9 +1,10 @@
 /* Tests the C library where no script of hosts/loop.c comes: numbers of refusals, openings in ever
- * less memory, what a call writes, and how much stack it takes. What is wanted is written here, by
- * include/psci.h and docs/port/FORMATS.md. The last line is 'stack N', by the call that took most. */
+ * less memory, what a call writes and a core leaves with, and how much stack it takes. What is
+ * wanted is written here, by include/psci.h, include/psci_port.h and docs/port/FORMATS.md. The last
+ * line is 'stack N', by the call that took most. */
 #define _XOPEN_SOURCE 700
 #include "pool.h"
-#include "psci.h"
+#include "psci_port.h"
 
 #include <pthread.h>
 #include <stdatomic.h>
@@ -646,6 +647,47 @@ static void refusals(void) {
     want("a message", PSCI_FRAME_NOT_AN_ACK, take_changed(2, 0x02, PSCI_FRAME_LEN));
     want("used", PSCI_USED, take_changed(12, 1, PSCI_FRAME_LEN));
     want("old", PSCI_OLD, take_changed(12, 1, PSCI_FRAME_LEN));
+    want("the system off", PSCI_STOP, smc(0, 0x84000008, 0, 0, 0));
+    want("of another kind", PSCI_OLD, take_changed(2, 0x14, PSCI_FRAME_LEN));
+    want("of another core", PSCI_OLD, take_changed(3, 1, PSCI_FRAME_LEN));
+    want("of another life", PSCI_OLD, take_changed(7, 2, PSCI_FRAME_LEN));
+    want("of another number", PSCI_OLD, take_changed(11, 2, PSCI_FRAME_LEN));
+    want("of the message", PSCI_USED, take_changed(12, 1, PSCI_FRAME_LEN));
+}
+
+/* The register that a core leaves with has a code of 32 bits after an SMC32 call, and its sign in the upper half after
+ * an SMC64 call, which bit 30 of the function word says alone. */
+static void leaving(void) {
+    static const struct { const char *what; uint64_t x0, x1, x2, leaves; } calls[] = {
+        {"no function of SMC32", 0x84000005, 0, 0, 0xffffffff},
+        {"no function of SMC64", 0xc4000005, 0, 0, ~(uint64_t)0},
+        {"no fast call of SMC32", 0x04000000, 0, 0, 0xffffffff},
+        {"no fast call of SMC64", 0x44000000, 0, 0, ~(uint64_t)0},
+        {"bit 29", 0xa4000000, 0, 0, 0xffffffff},
+        {"the version", 0x84000000, 0, 0, 0x10001},
+        {"SMC64, on", 0xc4000003, 1, 0x40001000, 0},
+        {"SMC64, on pending", 0xc4000003, 1, 0x40001000, ~(uint64_t)4},
+        {"SMC32, on pending", 0x84000003, 1, 0x40001000, 0xfffffffb},
+        {"SMC64, already on", 0xc4000003, 0, 0x40001000, ~(uint64_t)3},
+        {"SMC64, denied", 0xc400000e, 0x40001000, 0, ~(uint64_t)2},
+        {"SMC32, denied", 0x8400000e, 0x40001000, 0, 0xfffffffd},
+        {"SMC64, no such core", 0xc4000003, 2, 0x40001000, ~(uint64_t)1},
+        {"SMC32, no such entry point", 0x84000003, 0x100, 0, 0xfffffff7},
+    };
+    const struct psci_port_door door = {.start = {.life = 1, .number = 1, .cause = PSCI_CAUSE_BOOT}, .opened = 1};
+    struct psci_port_core side;
+    struct psci_port_orders orders;
+    want("opened", PSCI_OPENED, open_text(small));
+    psci_port_new(&side, 0);
+    want("a start", PSCI_PORT_TAKES_UP, psci_port_look(&side, &door, false));
+    psci_port_enter(&place.it, &side, &orders);
+    want("an entry", PSCI_PORT_ENTERS, orders.next);
+    for (size_t each = 0; each < sizeof calls / sizeof *calls; each++) {
+        psci_port_call(&place.it, &side, calls[each].x0, calls[each].x1, calls[each].x2, 0, &orders);
+        want("it leaves", PSCI_PORT_LEAVES, orders.next);
+        want(calls[each].what, calls[each].leaves, orders.x0);
+    }
+    make(do_close);
 }
 
 /* Who runs in a halting life, and what is granted and on while none asks. */
@@ -860,6 +902,7 @@ int main(void) {
     faulty_machines();
     frames();
     frame_bytes();
+    leaving();
     pool_give(memory, size);
     beside_calls();
     long_starts();
