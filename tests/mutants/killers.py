@@ -176,11 +176,25 @@ def of_program(top, binary, jobs):
         words, wanted = ("storm", "--seed", seed, "--count", "10000"), (f"{line}\n".encode(), b"", 0)
         killers.append(Killer(" ".join(words), lambda number, words=words, wanted=wanted:
                               ran([binary.at_work(number), *words]) != wanted))
+    before = kept(binary, schema.NONE)
+    killers.append(Killer("storm kept", lambda number: kept(binary, number) != before))
     for words in THREADS:
         killers.append(Killer(" ".join(words), lambda number, words=words:
                               not is_audited(ran([binary.at_work(number), *words]))))
     killers += shown(top, binary)
     return killers + [script("random", it, binary) for it in random_scripts(top, jobs)]
+
+
+def kept(binary, number):
+    """The counts of a storm by their names, and its calls: what tests/program/tally-floors holds to the functions."""
+    path = f"{binary.room}/kept-{number}"
+    said = ran([binary.at_work(number), "storm", "--seed", "1", "--count", "10000", "--counts", "--keep", path])
+    text = b""
+    if os.path.exists(path):
+        with open(path, "rb") as file:
+            text = file.read()
+        os.remove(path)
+    return said, text
 
 
 def is_audited(said):
