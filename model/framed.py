@@ -1,8 +1,8 @@
 """Holds the frames of frame.py to what is proved of frames, and to frames that were recorded.
 
-`examples` works out each theorem of psci_link's examples, and those of psci_examples with two faults in
-one frame; `records` reads each frame of the stored records, and spells what the model sends in the same
-runs; `random` reads frames that were drawn, and the same with a byte changed.
+`examples` works out psci_examples' theorems of frames with two faults; `records` reads each frame of the
+stored records, and spells what the model sends in the same runs; `random` reads frames that were drawn, and
+the same with a byte changed.
 """
 import glob
 import lzma
@@ -23,8 +23,8 @@ TOP = os.path.dirname(os.path.dirname(os.path.abspath(__file__)))
 sys.path.insert(0, f"{TOP}/tools")
 from views.record import Record as Run
 
-# the crates with examples of frames, and their files; how often each fault has to come
-PROVED, LEAST = (("psci_link", "*Rows"), ("psci_examples", "FramePairRows")), 20
+# how often each fault has to come
+LEAST = 20
 # records whose runs the model goes through, besides reading their frames
 RUNS = ("tests/hosts/records/short.record", "hosts/el3/runs/probe.record.xz", "hosts/el3/runs/os-initiated.record.xz")
 BOARDS = ("2 exec 0x0-0x4 boot 0x0 starts 9 lives 9", "(2 2) exec 0x0-0x4 boot 0x0 starts 9 lives 9",
@@ -33,36 +33,21 @@ BOARDS = ("2 exec 0x0-0x4 boot 0x0 starts 9 lives 9", "(2 2) exec 0x0-0x4 boot 0
 
 # ---- the examples
 
-def message(it):
-    parts = tuple((part.level, part.depth, part.generation) for part in it.parts)
-    return Message(it.kind, it.core.number, it.life, it.number, parts)
-
-
 RULES = {
-    **{name.title(): name for name in frames.KINDS},
-    "Message": message, "Ack": lambda it: Ack(it.kind, it.core.number, it.life, it.number, it.applied, it.stale),
-    "headings": {"Message": lambda kind: (0, kind), "Ack": lambda kind: lambda stale: (2 if stale else 1, kind)},
     "faults": {name: at for at, name in enumerate(frames.FAULTS, 1)},
     "first_fault": lambda b: lambda it: frames.first_fault(bytes(it), Board(text_of(b))),
-    "frame_bytes": lambda it: list(frames.spelled(it)),
-    "frame_in": lambda heading: lambda it: frames.said_by(bytes(it)),
-    "heading_for": lambda it: frames.heading(frames.spelled(it)[2]),
-    "kind_byte": lambda it: frames.spelled(it)[2],
-    "part_bytes": lambda it: list(frames.spelled(Message("down", 0, 0, 0, [(it.level, it.depth, it.generation)]))
-                                  [frames.HEADER:frames.HEADER + frames.PART]),
 }
 
 
 def examples():
     """Whether the model says of each example what is proved."""
     wrong, many = [], 0
-    for crate, files in PROVED:
-        for theorem, sides in Examples(RULES, crate, "psci_link/proofs/FaultRows").rows(files):
-            many += 1
-            if sides is None:
-                wrong.append(f"{theorem} has names that are unknown here")
-            elif sides[0] != sides[1]:
-                wrong.append(f"{theorem}: the model says {sides[0]}, and {sides[1]} is proved")
+    for theorem, sides in Examples(RULES, "psci_examples", "psci_link/proofs/Bytes").rows("FramePairRows"):
+        many += 1
+        if sides is None:
+            wrong.append(f"{theorem} has names that are unknown here")
+        elif sides[0] != sides[1]:
+            wrong.append(f"{theorem}: the model says {sides[0]}, and {sides[1]} is proved")
     print("\n".join(wrong) or f"{many} examples of frames are as proved")
     return 1 if wrong or not many else 0
 

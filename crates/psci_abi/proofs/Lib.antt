@@ -1,6 +1,1 @@
-mod CodeRows
-mod FeatureRows
-mod FunctionRows
-mod RequestRows
-mod ResultRows
 pub mod Tables

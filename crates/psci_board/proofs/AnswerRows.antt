@@ -5,7 +5,7 @@ use Rattle.psci_board.specs.declared.fault.BoardFault.{BoardFault}
 use Rattle.psci_board.specs.declared.fault.BoardFault.TheVariants.{Grammar, Uneven, Memory}
 use Rattle.psci_board.specs.Board.{BoardValue}
 use Rattle.psci_board.specs.Verdict.{Answers}
-use Rattle.psci_board.proofs.SpanRows.{uneven}
+use Rattle.psci_board.proofs.Boards.{uneven}
 
 -- out of memory only for a text without a fault, and each fault as it is
 pub memory_for_a_board : Answers (Err Memory) (Ok uneven)

@@ -3,8 +3,7 @@ use Rattle.std.proofs.Common.{◌≡◌, ℕ, true, false, ◌∷◌, [], ◌++�
 use Rattle.std.specs.Prelude.{Some, None, map, replicate}
 use Rattle.psci_board.specs.declared.range.AddressRange.{AddressRange}
 use Rattle.psci_board.specs.Board.{IsBoard, HasNode, core_at, nodes, may_enter, is_width}
-use Rattle.psci_board.proofs.AffinityRows.{board, at}
-use Rattle.psci_board.proofs.SpanRows.{uneven}
+use Rattle.psci_board.proofs.Boards.{at, board, uneven}
 
 -- Boards ----------------------------------------------------------------------------------------
 

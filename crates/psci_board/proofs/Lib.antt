@@ -1,18 +1,15 @@
-pub mod AffinityRows
 pub mod AnswerRows
 pub mod BoardRows
+pub mod Boards
 pub mod Children
 pub mod Decided
-pub mod FaultRows
 pub mod Fields
 pub mod FirstCores
 pub mod FirstFault
-pub mod FormatRows
 pub mod Fronts
 pub mod Groups
 pub mod Kept
 pub mod KeptTree
-pub mod LargestRows
 pub mod Levels
 mod LimitRows
 pub mod More
@@ -22,17 +19,12 @@ pub mod Paths
 pub mod Ranges
 pub mod Readers
 pub mod Readings
-pub mod Rows
-pub mod SpanRows
 pub mod Spans
 pub mod Spelled
 pub mod SpelledParts
-pub mod SpelledRows
 pub mod SpelledText
 pub mod SpelledTree
 mod SpellingRows
 pub mod Terms
 pub mod Values
-pub mod VerdictRows
-pub mod WordRows
 pub use Rattle.psci_abi.proofs.Tables

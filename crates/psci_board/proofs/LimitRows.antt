@@ -3,8 +3,7 @@ use Rattle.std.proofs.Common.{◌∷◌, [], arith, rules}
 use Rattle.std.specs.Prelude.{replicate}
 use Rattle.std.proofs.lemmas.List.Sums.{AllPass-from_list_all}
 use Rattle.psci_board.specs.Board.{IsBoard}
-use Rattle.psci_board.proofs.AffinityRows.{board}
-use Rattle.psci_board.proofs.SpanRows.{uneven}
+use Rattle.psci_board.proofs.Boards.{board, uneven}
 
 -- as many lives and starts as there may be, at height 3
 most_lives : IsBoard (record uneven { lives = 65535; starts = 4294967295 })

@@ -9,7 +9,7 @@ use Rattle.psci_link.specs.declared.heading.Heading.{Heading}
 use Rattle.psci_link.specs.declared.heading.Heading.TheVariants as headings
 use Rattle.psci_link.specs.Frame.{AreBytes, fault_of_kind, first_fault}
 use Rattle.psci_link.specs.Heading.{HasHeading}
-use Rattle.psci_link.proofs.FaultRows.{acknowledged, board, down, start}
+use Rattle.psci_link.proofs.Bytes.{acknowledged, board, down, start}
 use Rattle.psci_messages.specs.declared.kind.Kind.TheVariants.{Down}
 use Rattle.psci_board.proofs.Tables.{◌⇒◌, Gives}
 use Rattle.psci_examples.proofs.Apart.{apart_by, itself, never_less}

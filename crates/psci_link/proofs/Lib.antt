@@ -1,11 +1,8 @@
-mod AckRows
+pub mod Bytes
 mod CoreBytes
-pub mod FaultRows
 pub mod Faults
-mod FrameRows
 pub mod Frames
 pub mod Headings
-mod KindRows
 pub mod Places
 mod PutBytes
 mod Reading

@@ -1,8 +1,6 @@
 mod Accepted
-mod Boards
 mod ClaimLaws
 pub mod History
-mod LastCoreRows
 mod MessageRows
 mod OsiLaws
 pub mod PartLevels
@@ -12,5 +10,4 @@ pub mod SavedSlices
 mod SavedSlotRows
 pub mod SavedSlots
 pub mod SavedWords
-mod SlotRows
 pub mod Sums

@@ -3,4 +3,3 @@ mod Counts
 mod Gathered
 mod Refusals
 mod Siblings
-mod WorseRows

@@ -7,7 +7,13 @@ use Rattle.psci_board.specs.Board.{place_above}
 use Rattle.psci_state.specs.declared.cores.Activity.TheVariants.{Suspended}
 use Rattle.psci_tree.specs.Recount.{TreeValue, IsDomainTree, granted_at, never_started}
 use Rattle.psci_tree.specs.Changes.{MayGrant}
-use Rattle.psci_tree.proofs.UnevenRows.{uneven, node}
+
+-- ((1 2) (1)): clusters of one, two and one core, the first two below one domain of level 2
+abbrev uneven : List (List ℕ)
+uneven = (1 ∷ 2 ∷ 1 ∷ []) ∷ (2 ∷ 1 ∷ []) ∷ (2 ∷ []) ∷ []
+
+abbrev node : ℕ → ℕ → Node
+node level place = record { level = level; place = place }
 
 -- this much granted, and every core off
 abbrev granting : List ℕ → List ℕ → List ℕ → ℕ → TreeValue

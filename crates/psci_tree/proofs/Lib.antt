@@ -7,23 +7,19 @@ pub mod DepthRows
 pub mod Gone
 pub mod GrantRows
 pub mod Granted
-pub mod KeptRows
 pub mod Levels
 pub mod Looked
 pub mod Lows
 pub mod OffOnes
 pub mod PathStands
 pub mod Ranges
-pub mod Rows
 pub mod SavedCores
 pub mod SavedDepths
 pub mod SavedRows
-mod SavedTreeRows
 pub mod SavedTrees
 pub mod Seen
 pub mod Slices
 pub mod Spans
 pub mod Steps
-pub mod UnevenRows
 pub mod Valid
 pub mod Words
