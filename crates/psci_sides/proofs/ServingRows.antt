@@ -36,13 +36,7 @@ brings = (
 
 of_use : Each (λ b x. IsWanted b (framed b x) x)
 unfolding playing
-of_use = (
-  is_wanted refl refl brings.0,
-  is_wanted refl refl brings.1,
-  is_wanted refl refl brings.2,
-  is_wanted refl refl brings.3,
-  is_wanted refl refl brings.4,
-)
+of_use = search (arith, is_wanted, brings)
 
 -- not of what is outstanding no more
 out_no_more : (b : BoardValue) (x : MessageValue) → IsWanted b (taken b x) x → ⊥
@@ -69,13 +63,7 @@ brings_nothing b x w = w.brings (record { depths = λ level within. refl; left =
 
 is_gone : Each (λ b x. IsLost (lost b x) x)
 unfolding playing
-is_gone = (
-  is_lost refl refl refl,
-  is_lost refl refl refl,
-  is_lost refl refl refl,
-  is_lost refl refl refl,
-  is_lost refl refl refl,
-)
+is_gone = search (arith, is_lost)
 
 -- not where a frame is in the mailbox, or at a gate
 frame_is_there : (b : BoardValue) (x : MessageValue) → IsLost (framed b x) x → ⊥
@@ -122,12 +110,7 @@ delivers_nothing b x s = nothing_in s.0
 delivers_what_waits : EachGoing (λ b x.
     Serves b (unheard b x) (DeliverMail x (unheard b x).control anew) → ⊥)
 unfolding playing
-delivers_what_waits = (
-  λ s. false≢true (sym s.2),
-  λ s. false≢true (sym s.2),
-  λ s. false≢true (sym s.2),
-  λ s. false≢true (sym s.2),
-)
+delivers_what_waits = search arith
 
 delivers_in_vain : (b : BoardValue) (x : MessageValue)
     → Serves b (taken b x) (DeliverMail x (taken b x).control anew) → ⊥
@@ -149,35 +132,18 @@ delivers_kept = (
 keeps_nothing : Each (λ b x.
     Serves b (framed b x) (DeliverKept x.core.number x (framed b x).control anew) → ⊥)
 unfolding playing
-keeps_nothing = (
-  λ s. none-some _ s.1,
-  λ s. none-some _ s.1,
-  λ s. none-some _ s.1,
-  λ s. none-some _ s.1,
-  λ s. none-some _ s.1,
-)
+keeps_nothing = search (arith, none-some)
 
 keeps_on_waiting : EachGoing (λ b x.
     Serves b (kept 0 b x) (DeliverKept x.core.number x (kept 0 b x).control anew) → ⊥)
 unfolding playing
-keeps_on_waiting = (
-  λ s. false≢true (sym s.3),
-  λ s. false≢true (sym s.3),
-  λ s. false≢true (sym s.3),
-  λ s. false≢true (sym s.3),
-)
+keeps_on_waiting = search arith
 
 -- A word is heard --------------------------------------------------------------------------------
 
 hears : Each (λ b x. Serves b (unheard b x) (Hear x.core.number))
 unfolding playing
-hears = (
-  (omega arith, λ e. eqb-false 0 1 refl e),
-  (omega arith, λ e. eqb-false 0 1 refl e),
-  (omega arith, λ e. eqb-false 0 1 refl e),
-  (omega arith, λ e. eqb-false 0 1 refl e),
-  (omega arith, λ e. eqb-false 0 1 refl e),
-)
+hears = search arith
 
 heard_it : Each (λ b x. Serves b (framed b x) (Hear x.core.number) → ⊥)
 unfolding playing
