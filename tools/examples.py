@@ -15,6 +15,8 @@ PROVED = re.compile(r"refl|\(refl, refl\)"
                     r"|record \{\s*(?:legal = [^;]*;\s*)?(?:only|on|events) = refl\b")
 # the name of a row, in a line above it
 NAME = re.compile(r"^ *-- (\w+): .*$", re.M)
+# a statement of each message on its board, or of each of the cases of `Each`
+OF_EACH = re.compile(r"(Each\w*) \(λ (\w+) (\w+)\. (.*)\)|\((\w+) : BoardValue\) \((\w+) : MessageValue\) → (.*)")
 
 
 def split(text, between):
@@ -64,7 +66,8 @@ class Examples:
         # what else is written out: an example that has to use its cell goes by the names of boards
         self.named = "Event" if crate in USED else "BoardValue"
         # runs that several files of examples name
-        paths = [f"{TOP}/crates/{crate}/proofs/{file}.antt" for file in ("Histories", "Openings")]
+        paths = [f"{TOP}/crates/{crate}/proofs/{file}.antt" for file in ("Histories", "Openings", "Cases")]
+        paths += [f"{TOP}/crates/psci_port/proofs/Cases.antt"] * (crate == "psci_sides")
         paths += [f"{TOP}/crates/psci_world_spec/proofs/Scripts.antt"] * (crate == "psci_headline")
         self.shared = "\n".join(text_of(path) for path in paths if os.path.exists(path))
 
@@ -77,7 +80,7 @@ class Examples:
             text, said = "".join(text_of(path) for path in paths if os.path.exists(path)), {}
             for theorem, it, proof in self.theorems(text):
                 for row, words, how in ((theorem, " ".join(it.split()), proof),
-                                        *self.rows(text, it, proof)):
+                                        *self.rows(text, it, proof), *self.of_each(theorem, text, it, proof)):
                     said.setdefault(row, []).append((words, how))
             self.files[file] = text, said
         found = self.files[file][1].get(word, ())
@@ -116,6 +119,19 @@ class Examples:
                 given = dict(zip(parameters, values))
                 row = re.sub(r"(?<![\w.])\w+", lambda it: given.get(it[0], it[0]), row)
                 yield f"{case}.{name}", f"{head} {row}", proof
+
+    def of_each(self, theorem, text, statement, proof):
+        """The same of each case of a theorem that is of each message on its board, named CASE.THEOREM."""
+        found = OF_EACH.fullmatch(" ".join(statement.split())) if self.by_none else None
+        if not found:
+            return
+        word, *names = found.groups()[:3] if found[1] else ("Each", found[5], found[6])
+        parts = [] if found[7] or not proof.startswith("(") else split(proof[1:-1], ",")
+        for at, factor in enumerate(split(self.body(text, word)[1], "×")):
+            case, _, *values = split(factor.strip(), " ")
+            given = dict(zip(names, values))
+            row = re.sub(r"(?<![\w.])\w+", lambda it: given.get(it[0], it[0]), found[4] or found[7])
+            yield f"{case[1:-1]}.{theorem}", row, parts[at] if at < len(parts) else proof
 
     def body(self, text, word):
         """The parameters of an abbreviation, and what it stands for."""

@@ -24,17 +24,10 @@ pub mod Undoing
 pub mod Undone
 pub mod Staying
 -- Worked examples.
+pub mod Playing
+pub mod Cases
 mod CellRows
-mod Playing
 mod PortRows
-mod DueRows
-mod LifeRows
-mod QuietRows
-mod RebootRows
-pub mod ServedRows
-mod UndoneRows
-pub mod LessRows
-pub mod ListedRows
-mod ArmedRows
 mod RestRows
 mod RuleRows
+mod ServedRows

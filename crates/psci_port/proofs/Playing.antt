@@ -5,9 +5,11 @@ use Rattle.std.proofs.Common.{Option, None, Some}
 use Rattle.std.specs.Prelude.{not, ◌&&◌, ◌||◌, if◌then◌else◌, nat_lt}
 use Rattle.psci_board.specs.Board.{BoardValue, up}
 use Rattle.psci_ctl_spec.specs.psci_messages.Message.{AckValue, MessageValue}
+use Rattle.psci_ctl_spec.specs.psci_messages.declared.kind.Kind.{Kind}
 use Rattle.psci_ctl_spec.specs.psci_messages.declared.kind.Kind.TheVariants as kinds
+use Rattle.psci_ctl_spec.specs.psci_messages.declared.part.Part.{Part}
+use Rattle.psci_ctl_spec.specs.psci_messages.declared.start.Cause.TheVariants as causes
 use Rattle.psci_ctl_spec.specs.psci_messages.declared.start.Start.{Start}
-use Rattle.psci_ctl_spec.specs.declared.call.CtlCall.TheVariants as asked
 use Rattle.psci_ctl_spec.specs.Replies.{last_start}
 use Rattle.psci_world_spec.specs.psci_fw_spec.declared.call.FwCall.TheVariants as calls
 use Rattle.psci_world_spec.specs.declared.said.Said.{Said}
@@ -15,9 +17,8 @@ use Rattle.psci_world_spec.specs.declared.said.Said.TheVariants.{Absent}
 use Rattle.psci_world_spec.specs.Histories.{acks, sent}
 use Rattle.psci_world_spec.specs.Legal.{asked_firmware}
 use Rattle.psci_world_spec.specs.Lists.{indexed}
-use Rattle.psci_world_spec.proofs.Scripts.{board, computing}
+use Rattle.psci_world_spec.proofs.Scripts.{board, computing, part}
 use Rattle.psci_port.specs.Rebooted.{rebooted}
-use Rattle.psci_port.specs.Waiting.{waits}
 use Rattle.psci_port.specs.Stages.{Stage, Entering}
 use Rattle.psci_port.specs.Stages.{executes, has_stopped, may_hold}
 use Rattle.psci_port.specs.Port.{Port, Act, Locks, Unlocks, Calls, Enters, Takes, Finishes}
@@ -100,7 +101,7 @@ each_core f = f 0 && f 1 && f 2 && f 3
 abbrev each_level : (ℕ → Bool) → Bool
 each_level f = f 0 && f 1 && f 2
 
-abbrev is_some : {A : Type 0} → Option A → Bool
+abbrev pub is_some : {A : Type 0} → Option A → Bool
 is_some None = false
 is_some (Some x) = true
 
@@ -156,16 +157,6 @@ takes_last_start (acts, c) =
     same_door (p.row c).door (last_start p.values c)
     && (p.row c).opened == p.values.starts c && nat_lt (p.row c).used (p.values.starts c)
 
--- What is seen -----------------------------------------------------------------------------------
-
-abbrev waits_of : Port → Option MessageValue → Bool
-waits_of p None = false
-waits_of p (Some m) = waits board p.values (words p) (asked.Deliver m)
-
--- whether the message of this number has to wait
-abbrev pub waits_after : List Act → ℕ → Bool
-waits_after acts k = let p = after acts in waits_of p (indexed (sent p.past) k)
-
 -- Runs -------------------------------------------------------------------------------------------
 
 abbrev pub door : ℕ → List Act
@@ -187,3 +178,15 @@ off_called = on_3 ++ door 3 ++ comes 3
 
 abbrev pub off_3 : List Act
 off_3 = off_called ++ (Unlocks 3 ∷ Stands 3 ∷ [])
+
+-- a message of life 1, of core 3 in its start, and its Down there
+abbrev pub of_3 : Kind → ℕ → List Part → MessageValue
+of_3 kind number parts =
+    record { kind = kind; core = record { number = 3 }; life = 1; number = number; parts = parts }
+
+abbrev pub down_3 : MessageValue
+down_3 = of_3 kinds.Down 1 (part 0 3 1 ∷ part 1 3 1 ∷ [])
+
+-- a start by a wake-up
+abbrev pub start_of : ℕ → ℕ → Start
+start_of life number = record { life = life; number = number; cause = causes.Wake }

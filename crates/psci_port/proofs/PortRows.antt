@@ -1,269 +1,208 @@
--- Worked examples: runs of a port, and what breaks each clause alone.
-use Rattle.std.proofs.Common.{◌≡◌, ◌∷◌, ◌++◌, [], true, false, refl, ℕ, List, map, reverse}
-use Rattle.std.proofs.Common.{Bool, Option, None, Some}
-use Rattle.std.specs.Prelude.{take}
-use Rattle.std.proofs.Common.{arith, sym}
+-- Worked examples: what a port has written down after acts, which messages wait there, what a life
+-- leaves as it ends or begins, and the clauses as they stand.
+use Rattle.std.proofs.Common.{◌≡◌, ◌∷◌, ◌++◌, [], arith, Bool, false, length, List, map, None, Option}
+use Rattle.std.proofs.Common.{refl, reverse, Some, sym, true, ℕ}
 use Rattle.std.proofs.lemmas.Bool.{false≢true}
 use Rattle.std.proofs.lemmas.Option.{none-some}
-use Rattle.psci_ctl_spec.specs.psci_messages.declared.kind.Kind.TheVariants.{Down, Start}
+use Rattle.std.specs.Prelude.{take}
+use Rattle.psci_board.proofs.Tables.{◌⇒◌, Gives}
+use Rattle.psci_board.specs.Board.{BoardValue}
 use Rattle.psci_ctl_spec.specs.psci_messages.Message.{MessageValue}
+use Rattle.psci_ctl_spec.specs.psci_messages.declared.kind.Kind.TheVariants.{Down, Reset, Start}
+use Rattle.psci_ctl_spec.specs.psci_messages.declared.start.Cause.TheVariants as causes
+use Rattle.psci_ctl_spec.specs.declared.call.CtlCall.{CtlCall}
 use Rattle.psci_ctl_spec.specs.declared.call.CtlCall.TheVariants as asked
-use Rattle.psci_world_spec.specs.declared.said.Record.{Record}
+use Rattle.psci_world_spec.specs.declared.event.Event.TheVariants.{Deliver, Enter}
+use Rattle.psci_world_spec.specs.declared.said.Said.{Said}
 use Rattle.psci_world_spec.proofs.Scripts.{acked, asks_on, board, enters as enters_at, goes_down}
-use Rattle.psci_world_spec.proofs.Scripts.{part}
+use Rattle.psci_world_spec.proofs.Scripts.{halts, one_core, part, system_reset}
+use Rattle.psci_port.specs.Kept.{EachTakesItsLast, IsLocked, NoneCut, TakesItsLast, WordsTell, runs}
+use Rattle.psci_port.specs.Rebooted.{rebooted}
+use Rattle.psci_port.specs.Stages.{Stage, Standing, AtDoor, Entering, Normal, Leaving, Armed, Woken}
+use Rattle.psci_port.specs.Stages.{is_started, roused_at, stage_by, started_at}
+use Rattle.psci_port.specs.Port.{Act, Locks, Unlocks, Finishes, TakesUp, Arms, Delivers, Wakes}
+use Rattle.psci_port.specs.Port.{Resets, Writes, Opens, Cuts, Restarts, Reboots, held_by, stage_at}
+use Rattle.psci_port.specs.Port.{words}
 use Rattle.psci_port.specs.Waiting.{waits}
-use Rattle.psci_port.specs.Stages.{Stage, Standing, AtDoor, Leaving}
-use Rattle.psci_port.specs.Port.{Port, Act, Locks, Unlocks, Finishes, TakesUp, Stands, Arms}
-use Rattle.psci_port.specs.Port.{Delivers, Wakes, Resets, Writes, Opens, Cuts, Restarts}
-use Rattle.psci_port.specs.Port.{stage_at, words}
-use Rattle.psci_port.specs.Kept.{EachTakesItsLast, IsLocked, NoneCut, TakesItsLast, WordsTell}
-use Rattle.psci_port.proofs.Playing.{Powered, Awake, Holder, Alone, Free, Whole, ByWord, Stood}
-use Rattle.psci_port.proofs.Playing.{Entered, after, asks, comes, delivers, door, failing, off_3}
-use Rattle.psci_port.proofs.Playing.{off_called, on_3, playing, waits_after}
+use Rattle.psci_port.proofs.CellRows.{both_come, life_1, reset_in_the_dark, started_meanwhile}
+use Rattle.psci_port.proofs.CellRows.{system_ends, torn_and_gone_on, torn_twice}
+use Rattle.psci_port.proofs.Playing.{Awake, after, asks, comes, delivers, door, down_3, failing}
+use Rattle.psci_port.proofs.Playing.{of_3, off_3, off_called, on_3, playing, start_of}
 
--- Runs -------------------------------------------------------------------------------------------
+-- What is written down ---------------------------------------------------------------------------
 
--- the two newest records
-abbrev newest : List Record → List Record
-newest [] = []
-newest (r ∷ past) = r ∷ take 1 past
+-- what was said in the newest records, the oldest of them first
+abbrev said : ℕ × List Act → List Said
+said (count, acts) = reverse (map (λ r. r.said) (take count (after acts).past))
 
--- where core 3 is, how deep it was taken down, whether it has no power, and who has the lock
-pub record Shown : Type 0 where
-  pub stage : Stage
-  pub depth : ℕ
-  pub cut : Bool
-  pub lock : Option ℕ
+-- two have the lock, and then are inside: each is told that it started core 2, by the one message
+-- that each of them sent
+abbrev two_inside : List Act
+two_inside = both_come 0 ++ (Locks 0 ∷ asks 0 0xc4000003 0x100 0x40002000 1 ∷ Locks 3
+    ∷ asks 3 0xc4000003 0x100 0x40003000 2 ∷ Finishes 0 ∷ Finishes 3 ∷ [])
 
-abbrev pub shown : List Act → Shown
-shown acts =
-    let p = after acts in
-    record {
-      stage = stage_at p 3;
-      depth = p.values.depth 0 3;
-      cut = p.cut 0 3;
-      lock = p.lock;
-    }
-
-still_inside : shown off_called
-    ≡ record { stage = Leaving; depth = 0; cut = false; lock = Some 3 }
-unfolding playing
-still_inside = refl
-
-its_down_waits : waits_after off_called 1 ≡ true
-unfolding playing
-its_down_waits = refl
-
-until_it_stands : waits_after off_3 1 ≡ false
-unfolding playing
-until_it_stands = refl
-
-goes_dark : shown (off_3 ++ (delivers 1 ∷ Cuts 0 3 ∷ []))
-    ≡ record { stage = Standing; depth = 3; cut = true; lock = None }
-unfolding playing
-goes_dark = refl
-
-nothing_fails : failing (off_3 ++ (delivers 1 ∷ Cuts 0 3 ∷ Cuts 1 1 ∷ [])) ≡ []
-unfolding playing
-nothing_fails = refl
-
--- seen through its calls it is the run of a script
-seen_through : reverse (map (λ r. r.said) (after (off_3 ++ (delivers 1 ∷ []))).past)
-    ≡ enters_at 0x40000000 0 ∷ asks_on 0 3 1 0 ∷ acked 0 Start 3 1 0 1 false
+-- a run is one of a script, seen through its calls; and one that goes on begins with its lives
+seen_through : Gives said
+    ((6, off_3 ++ (delivers 1 ∷ []))
+    ⇒ (enters_at 0x40000000 0 ∷ asks_on 0 3 1 0 ∷ acked 0 Start 3 1 0 1 false
     ∷ enters_at 0x40001000 7 ∷ goes_down 1 3 1 1 (part 0 3 1 ∷ part 1 3 1 ∷ [])
-    ∷ acked 1 Down 3 1 1 2 false ∷ []
+    ∷ acked 1 Down 3 1 1 2 false ∷ [])
+    ∷ (2, two_inside) ⇒ (asks_on 1 2 1 0 ∷ asks_on 1 2 1 0 ∷ [])
+    ∷ (2, torn_and_gone_on ++ door 0 ++ comes 0)
+    ⇒ (acked 0 Reset 0 1 1 1 false ∷ enters_at 0x40000000 0 ∷ [])
+    ∷ (2, torn_twice ++ door 0 ++ comes 0)
+    ⇒ (acked 1 Reset 0 2 1 1 false ∷ enters_at 0x40000000 0 ∷ []) ∷ [])
 unfolding playing
 seen_through = refl
 
--- What breaks each clause alone ------------------------------------------------------------------
-
--- no wait for the stop: the cluster is taken down above a core in the monitor, which has the lock
-no_wait : failing (off_called ++ (delivers 1 ∷ [])) ≡ Awake ∷ []
+ends_two_lives : map (λ r. r.event) (rebooted board 2)
+    ≡ Deliver 1 ∷ system_reset 0 ∷ Enter 0 ∷ Deliver 0 ∷ system_reset 0 ∷ Enter 0 ∷ []
 unfolding playing
-no_wait = refl
+ends_two_lives = refl
 
--- and then its power goes
-dark_in_the_monitor : failing (off_called ++ (delivers 1 ∷ Cuts 0 3 ∷ []))
-    ≡ Powered ∷ Awake ∷ []
+abbrev said_of_lives : BoardValue × ℕ → List Said
+said_of_lives (b, lives) = map (λ r. r.said) (rebooted b lives)
+
+is_said_of_lives : Gives said_of_lives
+    ((board, 2)
+    ⇒ (acked 1 Reset 0 2 1 1 false ∷ halts 1 Reset 0 2 1 ∷ enters_at 0x40000000 0
+    ∷ acked 0 Reset 0 1 1 1 false ∷ halts 0 Reset 0 1 1 ∷ enters_at 0x40000000 0 ∷ [])
+    ∷ (one_core, 1)
+    ⇒ (acked 0 Reset 0 1 1 1 false ∷ halts 0 Reset 0 1 1 ∷ enters_at 0x40000000 0 ∷ [])
+    ∷ (board, 0) ⇒ [] ∷ [])
 unfolding playing
-dark_in_the_monitor = refl
+is_said_of_lives = refl
 
--- it stands with the lock in hand
-stands_in_the_lock : failing (off_called ++ (Stands 3 ∷ [])) ≡ Holder ∷ []
+-- each run is kept, the last one first: that of the boot core's entry, its call and the delivery
+keeps_each_run : Gives (λ acts. map (λ past. length past) (runs (after acts)))
+    ((torn_and_gone_on ++ (Restarts ∷ [])) ⇒ (0 ∷ 3 ∷ 4 ∷ [])
+    ∷ (torn_and_gone_on ++ door 0 ++ comes 0 ++ (Reboots ∷ [])) ⇒ (6 ∷ 4 ∷ 4 ∷ []) ∷ [])
 unfolding playing
-stands_in_the_lock = refl
+keeps_each_run = refl
 
--- the lock is given back inside a call
-unlocked_inside : failing (on_3 ++ (Locks 0 ∷ asks 0 0x84000000 0 0 0 ∷ Unlocks 0 ∷ []))
-    ≡ Free ∷ []
+-- Lives ------------------------------------------------------------------------------------------
+
+-- where each core is, and whether it has power
+abbrev around : List Act → List (Stage × Bool)
+around acts = let p = after acts in map (λ c. (stage_at p c, p.cut 0 c)) (0 ∷ 1 ∷ 2 ∷ 3 ∷ [])
+
+-- the boot core alone is started, and its path alone has power
+abbrev anew : List (Stage × Bool)
+anew = (AtDoor, false) ∷ (Standing, true) ∷ (Standing, true) ∷ (Standing, true) ∷ []
+
+-- a life begins anew, however, and leaves the power as it ends
+begins_anew : Gives around
+    ([] ⇒ anew ∷ torn_and_gone_on ⇒ anew ∷ (both_come 0 ++ (Restarts ∷ [])) ⇒ anew
+    ∷ (life_1 ++ both_come 1 ++ (Reboots ∷ [])) ⇒ anew ∷ reset_in_the_dark ⇒ anew
+    ∷ system_ends 0x84000008
+    ⇒ ((Standing, false) ∷ (Standing, true) ∷ (Standing, true) ∷ (Standing, false) ∷ []) ∷ [])
 unfolding playing
-unlocked_inside = refl
+begins_anew = refl
 
--- two have the lock, and then two are inside
-abbrev two_hold : List Act
-two_hold = on_3 ++ door 3 ++ comes 3
-    ++ (Locks 0 ∷ asks 0 0xc4000003 0x100 0x40002000 1 ∷ Locks 3 ∷ [])
+-- the lock, whether the firmware is whole, the life, how often core 3 was started and how deep its
+-- cluster is
+abbrev kept : List Act → Option ℕ × Bool × Option ℕ × ℕ × ℕ
+kept acts =
+    let p = after acts in
+    (p.lock, p.whole, p.values.life, p.values.starts 3, p.values.depth 1 1)
 
-abbrev two_inside : List Act
-two_inside = two_hold ++ (asks 3 0xc4000003 0x100 0x40003000 2 ∷ [])
-
-two_with_the_lock : failing two_hold ≡ Whole ∷ []
+-- the lock is free and the firmware whole, though core 3 was inside
+nobody_inside : Gives kept
+    (torn_and_gone_on ⇒ (None, true, Some 2, 0, 3)
+    ∷ system_ends 0x84000009 ⇒ (None, true, Some 2, 0, 3)
+    ∷ system_ends 0x84000008 ⇒ (None, true, None, 0, 0) ∷ [])
 unfolding playing
-two_with_the_lock = refl
+nobody_inside = refl
 
-two_in_the_firmware : failing two_inside ≡ Alone ∷ []
+nothing_begun : map (λ acts. ((after acts).row 3).begun)
+    (torn_and_gone_on ∷ system_ends 0x84000008 ∷ []) ≡ None ∷ None ∷ []
 unfolding playing
-two_in_the_firmware = refl
+nothing_begun = refl
 
--- each is told that it started core 2, by the one message that each of them sent
-both_are_told : map (λ r. r.said)
-    (newest (after (two_inside ++ (Finishes 0 ∷ Finishes 3 ∷ []))).past)
-    ≡ asks_on 1 2 1 0 ∷ asks_on 1 2 1 0 ∷ []
+-- and the boot core comes by the first start of its life
+comes_in_its_life : Gives (λ acts. stage_at (after (acts ++ door 0 ++ (TakesUp 0 ∷ []))) 0)
+    (torn_and_gone_on ⇒ Entering (record { life = 2; number = 1; cause = causes.Boot })
+    ∷ torn_twice ⇒ Entering (record { life = 3; number = 1; cause = causes.Boot }) ∷ [])
 unfolding playing
-both_are_told = refl
+comes_in_its_life = refl
 
--- a core is reset by itself in a call: nobody gives the lock back, and the firmware is torn
-torn_by_a_reset : failing (on_3 ++ door 3 ++ comes 3
-    ++ (Locks 3 ∷ asks 3 0x84000002 0 0 0 ∷ Resets 3 ∷ [])) ≡ Holder ∷ Whole ∷ []
+-- Doors ------------------------------------------------------------------------------------------
+
+-- where core 3 is, whether it is held, and the starts for which its door was opened and that it used
+abbrev at_door : List Act → Stage × Bool × ℕ × ℕ
+at_door acts = let r = (after acts).row 3 in (r.stage, r.held, r.opened, r.used)
+
+-- one that is reset at its open door is held there; and a door that is opened before its start is
+-- written shows none, and that opening is used
+looks_in_turn : Gives at_door
+    ((on_3 ++ door 3 ++ (Resets 3 ∷ [])) ⇒ (AtDoor, true, 1, 0)
+    ∷ (on_3 ++ (Opens 3 ∷ TakesUp 3 ∷ Writes 3 ∷ [])) ⇒ (AtDoor, false, 1, 1) ∷ [])
 unfolding playing
-torn_by_a_reset = refl
+looks_in_turn = refl
 
--- all is reset there, and nobody asked for it; or it was asked for
-torn_by_a_cold_reset : failing (on_3 ++ door 3 ++ comes 3
-    ++ (Locks 3 ∷ asks 3 0x84000002 0 0 0 ∷ Restarts ∷ [])) ≡ []
-unfolding playing
-torn_by_a_cold_reset = refl
+-- a core is held by its reset alone
+holds_by_cause : map {B = Bool × Bool} (λ cause. (held_by cause false, held_by cause true))
+    (causes.Boot ∷ causes.On ∷ causes.Wake ∷ causes.Reset ∷ [])
+    ≡ (false, true) ∷ (false, true) ∷ (false, true) ∷ (true, true) ∷ []
+holds_by_cause = refl
 
-torn_by_a_system_reset : failing (on_3 ++ door 3 ++ comes 3
-    ++ (Locks 0 ∷ asks 0 0x84000009 0 0 0 ∷ Finishes 0 ∷ Unlocks 0 ∷ Locks 3
-    ∷ asks 3 0x84000002 0 0 0 ∷ delivers 1 ∷ [])) ≡ []
-unfolding playing
-torn_by_a_system_reset = refl
+-- what a start and an interrupt leave of each stage, and whether a core was started there
+each_stage : map {B = Stage × Stage × Bool} (λ y. (started_at y, roused_at y, is_started y))
+    (Standing ∷ AtDoor ∷ Entering (start_of 1 2) ∷ Normal ∷ Leaving ∷ Armed ∷ Woken ∷ [])
+    ≡ (AtDoor, Armed, false) ∷ (AtDoor, Woken, true)
+    ∷ (AtDoor, Entering (start_of 1 2), false) ∷ (AtDoor, Normal, false)
+    ∷ (AtDoor, Leaving, false) ∷ (Woken, Armed, false) ∷ (Woken, Woken, true) ∷ []
+each_stage = refl
 
--- Starts -----------------------------------------------------------------------------------------
+-- but a core that is reset is at its door
+each_cause : map (λ cause. stage_by cause Armed)
+    (causes.Boot ∷ causes.On ∷ causes.Wake ∷ causes.Reset ∷ []) ≡ Woken ∷ Woken ∷ Woken ∷ AtDoor ∷ []
+each_cause = refl
 
--- a core takes up again the start that it used
-entered_twice : failing (off_3 ++ (TakesUp 3 ∷ [])) ≡ ByWord ∷ []
-unfolding playing
-entered_twice = refl
+-- What waits -------------------------------------------------------------------------------------
 
--- a core says that it stands before it took its start up
-stands_at_its_door : failing (on_3 ++ (Stands 3 ∷ [])) ≡ Stood ∷ []
-unfolding playing
-stands_at_its_door = refl
+abbrev waits_for : List Act × CtlCall → Bool
+waits_for (acts, call) = let p = after acts in waits board p.values (words p) call
 
--- a core that is reset at its open door is not held there
-abbrev at_an_old_door : List Act
-at_an_old_door = on_3 ++ door 3 ++ (Resets 3 ∷ [])
-
-enters_by_an_old_start : failing (at_an_old_door ++ (TakesUp 3 ∷ [])) ≡ Entered ∷ []
-unfolding playing
-enters_by_an_old_start = refl
-
-held_there : ((after at_an_old_door).row 3).held ≡ true
-unfolding playing
-held_there = refl
-
-held_until_its_door_is_open : failing (at_an_old_door ++ door 3 ++ comes 3) ≡ []
-unfolding playing
-held_until_its_door_is_open = refl
-
--- a door is opened before its start is written: the core finds none there, and looks no more
-abbrev too_early : Port
-too_early = after (on_3 ++ (Opens 3 ∷ TakesUp 3 ∷ Writes 3 ∷ []))
-
-finds_no_start : stage_at too_early 3 ≡ AtDoor
-unfolding playing
-finds_no_start = refl
-
-used_that_opening : (too_early.row 3).used ≡ (too_early.row 3).opened
-unfolding playing
-used_that_opening = refl
-
--- The clauses as they stand ----------------------------------------------------------------------
-
-armed_is_cut : NoneCut board (after (off_called ++ (Arms 3 ∷ delivers 1 ∷ Cuts 1 1 ∷ []))) → ⊥
-unfolding playing
-armed_is_cut is = false≢true (sym (is.powered 3 1 (omega arith) (omega arith) refl))
-
-left_torn : IsLocked (after (on_3 ++ (Locks 0 ∷ asks 0 0x84000000 0 0 0 ∷ Unlocks 0 ∷ []))) → ⊥
-unfolding playing
-left_torn is = false≢true (is.free refl)
-
-stands_no_more : WordsTell (after (off_3 ++ (TakesUp 3 ∷ []))) → ⊥
-unfolding playing
-stands_no_more is = false≢true (is.stands 3 refl)
-
-takes_its_last : TakesItsLast (after (on_3 ++ door 3)) (TakesUp 3)
-unfolding playing
-takes_its_last = (refl, refl, omega arith)
-
-each_takes_its_last : EachTakesItsLast board (TakesUp 0 ∷ Opens 0 ∷ Writes 0 ∷ [])
-unfolding playing
-each_takes_its_last = ((refl, refl, omega arith), (tt, (tt, tt)))
-
-takes_none : TakesItsLast (after (on_3 ++ (Opens 3 ∷ []))) (TakesUp 3) → ⊥
-unfolding playing
-takes_none last = none-some _ last.0
-
--- A Down whose number is of an earlier start ------------------------------------------------------
-
--- its first part is of the present one: by its number it would not wait
+-- a Down of core 3 whose number is of an earlier start, and its part of the present one
 abbrev torn : MessageValue
-torn = record {
-  kind = Down;
-  core = record { number = 3 };
-  life = 1;
-  number = 0;
-  parts = part 0 3 1 ∷ [];
-}
+torn = of_3 Down 0 (part 0 3 1 ∷ [])
 
-abbrev core_3_runs : List Act
-core_3_runs = on_3 ++ door 3 ++ comes 3
-
-waits_by_its_part : waits board (after core_3_runs).values (words (after core_3_runs))
-    (asked.Deliver torn) ≡ true
+-- its Down waits until it stands, and is stale once it is woken; one goes by its parts and its life;
+-- after a start that it parks in, and once it was started meanwhile, it waits anew
+each_waits : Gives waits_for
+    ((off_called, asked.Deliver down_3) ⇒ true ∷ (off_3, asked.Deliver down_3) ⇒ false
+    ∷ (off_3 ++ (Wakes 3 ∷ []), asked.Deliver down_3) ⇒ false
+    ∷ (both_come 0, asked.Deliver torn) ⇒ true
+    ∷ (both_come 0, asked.Deliver (record torn { life = 2 })) ⇒ false
+    ∷ (off_3 ++ (Wakes 3 ∷ []) ++ door 3 ++ comes 3, asked.Deliver (of_3 Down 2 (part 0 3 2 ∷ [])))
+    ⇒ true
+    ∷ (started_meanwhile ++ (Locks 3 ∷ []), asked.Wake (record { number = 3 }) 1) ⇒ true
+    ∷ (started_meanwhile ++ (Locks 3 ∷ []), asked.Deliver (of_3 Down 2 (part 0 3 2 ∷ []))) ⇒ true
+    ∷ [])
 unfolding playing
-waits_by_its_part = refl
+each_waits = refl
 
-cuts_by_its_number : failing (core_3_runs ++ (Delivers 9 torn ∷ [])) ≡ Awake ∷ []
+-- by its number it would not wait
+cuts_by_its_number : failing (both_come 0 ++ (Delivers 9 torn ∷ [])) ≡ Awake ∷ []
 unfolding playing
 cuts_by_its_number = refl
 
--- one of another life touches nobody
-abbrev of_life_2 : MessageValue
-of_life_2 = record torn { life = 2 }
+-- The clauses as they stand ----------------------------------------------------------------------
 
-another_life_waits_not : waits board (after core_3_runs).values (words (after core_3_runs))
-    (asked.Deliver of_life_2) ≡ false
+not_kept : (NoneCut board (after (off_called ++ (Arms 3 ∷ delivers 1 ∷ Cuts 1 1 ∷ []))) → ⊥)
+    × (IsLocked (after (on_3 ++ (Locks 0 ∷ asks 0 0x84000000 0 0 0 ∷ Unlocks 0 ∷ []))) → ⊥)
+    × (WordsTell (after (off_3 ++ (TakesUp 3 ∷ []))) → ⊥)
+    × (TakesItsLast (after (on_3 ++ (Opens 3 ∷ []))) (TakesUp 3) → ⊥)
 unfolding playing
-another_life_waits_not = refl
+not_kept = (
+  λ is. false≢true (sym (is.powered 3 1 (omega arith) (omega arith) refl)),
+  λ is. false≢true (is.free refl),
+  λ is. false≢true (is.stands 3 refl),
+  λ last. none-some _ last.0,
+)
 
--- A wake-up --------------------------------------------------------------------------------------
-
-wakes_before_its_down : failing (off_3 ++ (Wakes 3 ∷ [])) ≡ []
+takes_its_last : TakesItsLast (after (on_3 ++ door 3)) (TakesUp 3)
+    × EachTakesItsLast board (TakesUp 0 ∷ Opens 0 ∷ Writes 0 ∷ [])
 unfolding playing
-wakes_before_its_down = refl
-
-its_down_is_stale_then : waits_after (off_3 ++ (Wakes 3 ∷ [])) 1 ≡ false
-unfolding playing
-its_down_is_stale_then = refl
-
-woken_and_not_taken_down : shown (off_3 ++ (Wakes 3 ∷ delivers 1 ∷ []))
-    ≡ record { stage = AtDoor; depth = 0; cut = false; lock = None }
-unfolding playing
-woken_and_not_taken_down = refl
-
--- it is woken after that, in the dark, and its path has power again
-woken_in_the_dark : shown (off_3 ++ (delivers 1 ∷ Cuts 0 3 ∷ Cuts 1 1 ∷ Wakes 3 ∷ []))
-    ≡ record { stage = AtDoor; depth = 0; cut = false; lock = None }
-unfolding playing
-woken_in_the_dark = refl
-
--- it parks, and its next Down waits though it stood before
-abbrev parked : List Act
-parked = off_3 ++ (Wakes 3 ∷ []) ++ door 3 ++ comes 3
-
-waits_again : waits_after parked 2 ≡ true
-unfolding playing
-waits_again = refl
+takes_its_last = search arith

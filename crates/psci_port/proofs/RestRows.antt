@@ -1,14 +1,19 @@
--- Worked examples: which acts are due, how much there is to do, and ports that are at rest or not.
-use Rattle.std.proofs.Common.{◌≡◌, ◌∷◌, ◌++◌, [], false, true, refl, None, Some, sym, ℕ}
-use Rattle.std.proofs.lemmas.Bool.{false≢true}
-use Rattle.std.proofs.lemmas.Option.{none-some}
-use Rattle.psci_ctl_spec.specs.psci_messages.declared.start.Cause.TheVariants.{Reset, Wake}
-use Rattle.psci_ctl_spec.specs.psci_messages.declared.start.Start.{Start}
+-- Worked examples: how much is due in a port, which start stands at a door, and ports that are at rest
+-- or not.
+use Rattle.std.proofs.Common.{◌≡◌, ◌∷◌, ◌++◌, [], arith, Bool, false, List, map, None, refl}
+use Rattle.std.proofs.Common.{Some, true, ℕ}
+use Rattle.psci_board.proofs.Tables.{◌⇒◌, Gives}
+use Rattle.psci_ctl_spec.specs.psci_messages.declared.start.Cause.TheVariants as causes
+use Rattle.psci_world_spec.specs.declared.event.Event.TheVariants.{Call, Enter, Take}
 use Rattle.psci_world_spec.proofs.Scripts.{board}
-use Rattle.psci_port.specs.Port.{Locks, Unlocks, TakesUp, Arms, Rises, Writes, Opens}
-use Rattle.psci_port.specs.Resting.{Goes, IsAtRest, IsQuiet, is_shown, left, total}
-use Rattle.psci_port.proofs.Playing.{after, asks, comes, door, enters, off_3, off_called, on_3}
-use Rattle.psci_port.proofs.Playing.{playing}
+use Rattle.psci_port.specs.Stages.{Standing, AtDoor, Entering, Normal, Leaving, Armed, Woken}
+use Rattle.psci_port.specs.Port.{Act, Locks, Unlocks, TakesUp, Arms, Rises, Writes, Port, Row}
+use Rattle.psci_port.specs.Port.{with_row}
+use Rattle.psci_port.specs.Resting.{IsAtRest, IsQuiet, call_left, cause_code, has_lock, is_shown}
+use Rattle.psci_port.specs.Resting.{left, own_left, total}
+use Rattle.psci_port.proofs.CellRows.{both_come, life_1, off_by}
+use Rattle.psci_port.proofs.Playing.{after, comes, door, enters, off_3, off_called, on_3, playing}
+use Rattle.psci_port.proofs.Playing.{start_of}
 
 -- How much is due --------------------------------------------------------------------------------
 
@@ -16,103 +21,72 @@ unfoldable pub counting : Unit {0}
 unfolding playing total
 counting = tt
 
--- the boot core, from its door to the normal world
-to_the_world : left board (after []) ≡ 12
+-- the boot core from its door to the normal world; core 3 from its call to its stop, and where it is
+-- armed and wakes itself; the cores' own are added up, in life 2 too
+how_much : Gives (λ acts. left board (after acts))
+    ([] ⇒ 12 ∷ (Writes 0 ∷ []) ⇒ 11 ∷ door 0 ⇒ 10 ∷ (door 0 ++ (TakesUp 0 ∷ [])) ⇒ 8
+    ∷ (door 0 ++ (TakesUp 0 ∷ Locks 0 ∷ [])) ⇒ 7
+    ∷ (door 0 ++ (TakesUp 0 ∷ Locks 0 ∷ enters 0 ∷ [])) ⇒ 6 ∷ (door 0 ++ comes 0) ⇒ 0
+    ∷ off_called ⇒ 4 ∷ (off_called ++ (Arms 3 ∷ [])) ⇒ 2
+    ∷ (off_called ++ (Arms 3 ∷ Rises 3 ∷ [])) ⇒ 14 ∷ off_3 ⇒ 0
+    ∷ (on_3 ++ (Locks 0 ∷ [])) ⇒ 13 ∷ (life_1 ++ (Writes 0 ∷ [])) ⇒ 11 ∷ [])
 unfolding counting
-to_the_world = refl
+how_much = refl
 
-once_written : left board (after (Writes 0 ∷ [])) ≡ 11
-unfolding counting
-once_written = refl
+-- with the lock, and without it
+each_stage : map {B = ℕ × ℕ} (λ y. (own_left true y, own_left false y))
+    (Standing ∷ AtDoor ∷ Entering (start_of 1 2) ∷ Normal ∷ Leaving ∷ Armed ∷ Woken ∷ [])
+    ≡ (0, 0) ∷ (0, 0) ∷ (7, 8) ∷ (1, 0) ∷ (4, 3) ∷ (2, 1) ∷ (2, 1) ∷ []
+each_stage = refl
 
-once_open : left board (after (door 0)) ≡ 10
-unfolding counting
-once_open = refl
+each_call : (call_left (Call 3 (record { x0 = 0; x1 = 0; x2 = 0; x3 = 0 })) 1 ≡ 6)
+    × (call_left (Enter 0) 7 ≡ 6) × (call_left (Take 4) 1 ≡ 2) × (call_left (Take 0) 4 ≡ 5)
+each_call = (refl, refl, refl, refl)
 
-on_its_way_in : left board (after (door 0 ++ (TakesUp 0 ∷ []))) ≡ 8
-unfolding counting
-on_its_way_in = refl
-
-with_the_lock : left board (after (door 0 ++ (TakesUp 0 ∷ Locks 0 ∷ []))) ≡ 7
-unfolding counting
-with_the_lock = refl
-
-in_its_entry : left board (after (door 0 ++ (TakesUp 0 ∷ Locks 0 ∷ enters 0 ∷ []))) ≡ 6
-unfolding counting
-in_its_entry = refl
-
-in_the_world : left board (after (door 0 ++ comes 0)) ≡ 0
-unfolding counting
-in_the_world = refl
-
--- core 3, from its last call to its stop; and where it is armed, and wakes itself
-from_its_call : left board (after off_called) ≡ 4
-unfolding counting
-from_its_call = refl
-
-armed : left board (after (off_called ++ (Arms 3 ∷ []))) ≡ 2
-unfolding counting
-armed = refl
-
-woken_by_itself : left board (after (off_called ++ (Arms 3 ∷ Rises 3 ∷ []))) ≡ 14
-unfolding counting
-woken_by_itself = refl
-
-stopped : left board (after off_3) ≡ 0
-unfolding counting
-stopped = refl
+whose_lock : map {B = Bool × Bool} (λ lock. (has_lock lock 0, has_lock lock 3)) (None ∷ Some 3 ∷ Some 0 ∷ [])
+    ≡ (false, false) ∷ (false, true) ∷ (true, false) ∷ []
+whose_lock = refl
 
 -- Which start stands at a door -------------------------------------------------------------------
 
-abbrev pub start_of : ℕ → ℕ → Start
-start_of life number = record { life = life; number = number; cause = Wake }
+-- its last one, of another life, number or cause, and none
+each_shown : map (λ there. is_shown there (Some (start_of 2 3)))
+    (Some (start_of 2 3) ∷ Some (start_of 1 3) ∷ Some (start_of 2 2)
+    ∷ Some (record { life = 2; number = 3; cause = causes.Reset }) ∷ None ∷ [])
+    ≡ true ∷ false ∷ false ∷ false ∷ false ∷ []
+each_shown = refl
 
-shown_there : is_shown (Some (start_of 2 3)) (Some (start_of 2 3)) ≡ true
-shown_there = refl
-
-of_another_life : is_shown (Some (start_of 1 3)) (Some (start_of 2 3)) ≡ false
-of_another_life = refl
-
-of_another_number : is_shown (Some (start_of 2 2)) (Some (start_of 2 3)) ≡ false
-of_another_number = refl
-
-of_another_cause : is_shown (Some (record { life = 2; number = 3; cause = Reset }))
-    (Some (start_of 2 3)) ≡ false
-of_another_cause = refl
-
-none_there : is_shown None (Some (start_of 2 3)) ≡ false
-none_there = refl
-
--- What is not due --------------------------------------------------------------------------------
-
-calls_come_from_outside : Goes board (after on_3) (asks 0 0x84000000 0 0 0) → ⊥
-calls_come_from_outside goes = goes
-
--- a core on its way in does not give the lock back
-keeps_the_lock : Goes board (after (door 0 ++ (TakesUp 0 ∷ Locks 0 ∷ []))) (Unlocks 0) → ⊥
-unfolding playing
-keeps_the_lock goes = false≢true (sym goes.1)
-
--- a core of the normal world takes no lock by itself
-takes_no_lock : Goes board (after on_3) (Locks 0) → ⊥
-unfolding playing
-takes_no_lock goes = false≢true goes
-
--- what stands at a door is not written again, and what is open is not opened again
-writes_once : Goes board (after (Writes 0 ∷ [])) (Writes 0) → ⊥
-unfolding playing
-writes_once goes = false≢true (sym goes.1)
-
-opens_once : Goes board (after (door 0)) (Opens 0) → ⊥
-unfolding playing
-opens_once goes = false≢true (sym goes.1)
+each_cause : map cause_code (causes.Boot ∷ causes.On ∷ causes.Wake ∷ causes.Reset ∷ [])
+    ≡ 0 ∷ 1 ∷ 2 ∷ 3 ∷ []
+each_cause = refl
 
 -- At rest ----------------------------------------------------------------------------------------
 
-quiet_core : IsQuiet (after off_3) 3
-unfolding playing
-quiet_core = record { standing = refl; word = refl; opened = refl; used = refl }
+abbrev off_row : Row
+off_row = (after off_3).row 3
 
-core_in_the_lock : IsAtRest board (after off_called) → ⊥
+abbrev with_3 : Row → Port
+with_3 row = with_row (after off_3) 3 row
+
+-- core 3 is quiet once it is off; and each clause breaks alone
+quiet_core : IsQuiet (after off_3) 3
+    × (IsQuiet (with_3 (record off_row { stage = Armed })) 3 → ⊥)
+    × (IsQuiet (with_3 (record off_row { stopped = 0 })) 3 → ⊥)
+    × (IsQuiet (with_3 (record off_row { opened = 0 })) 3 → ⊥)
+    × (IsQuiet (with_3 (record off_row { used = 0 })) 3 → ⊥)
 unfolding playing
-core_in_the_lock rests = none-some _ (sym rests.free)
+quiet_core = search arith
+
+abbrev Restless : List Act → Type 0
+Restless acts = IsAtRest board (after acts) → ⊥
+
+-- a core has the lock, and is at its door, the boot core in life 2 too, enters, leaves, is armed or
+-- woken
+restless : Restless (door 0 ++ comes 0 ++ (Locks 0 ∷ [])) × Restless off_called
+    × Restless [] × Restless life_1 × Restless on_3
+    × Restless (on_3 ++ door 3 ++ (TakesUp 3 ∷ []))
+    × Restless (both_come 0 ++ off_by 3 ++ (Unlocks 3 ∷ []))
+    × Restless (both_come 0 ++ off_by 3 ++ (Arms 3 ∷ Unlocks 3 ∷ []))
+    × Restless (both_come 0 ++ off_by 3 ++ (Arms 3 ∷ Rises 3 ∷ Unlocks 3 ∷ []))
+unfolding playing
+restless = search arith

@@ -1,284 +1,202 @@
--- Worked examples: acts that the rules of a port refuse, one for each rule, and some that they
--- allow.
-use Rattle.std.proofs.Common.{◌<◌, ◌≡◌, ◌∷◌, ◌++◌, [], ap, arith, Bool, false, true, refl}
-use Rattle.std.proofs.Common.{List, None, Some, sym, ℕ}
+-- Worked examples: acts that the rules of a port refuse, and some that they allow; which acts are due,
+-- of the boot core and of another one, in life 1 and in life 2; and which never are.
+use Rattle.std.proofs.Common.{◌≡◌, ◌∷◌, ◌++◌, [], arith, List, None, Option, refl, Some, true, ℕ}
 use Rattle.std.proofs.lemmas.Bool.{false≢true}
 use Rattle.std.proofs.lemmas.Option.{none-some}
-use Rattle.psci_ctl_spec.specs.psci_messages.Message.{MessageValue}
-use Rattle.psci_ctl_spec.specs.psci_messages.declared.kind.Kind.{Kind}
-use Rattle.psci_ctl_spec.specs.psci_messages.declared.kind.Kind.TheVariants.{Down, Start}
-use Rattle.psci_ctl_spec.specs.psci_messages.declared.part.Part.{Part}
+use Rattle.psci_ctl_spec.specs.psci_messages.declared.kind.Kind.TheVariants as kinds
+use Rattle.psci_ctl_spec.specs.psci_messages.declared.start.Start.{Start}
+use Rattle.psci_world_spec.specs.declared.said.Record.{Record}
 use Rattle.psci_world_spec.specs.declared.said.Said.TheVariants.{Absent}
-use Rattle.psci_world_spec.proofs.Scripts.{board, limited, part}
-use Rattle.psci_port.specs.Stages.{Stage, Standing, AtDoor, Entering, Normal, Leaving, Armed}
-use Rattle.psci_port.specs.Stages.{Woken, has_stopped}
-use Rattle.psci_port.specs.Port.{Locks, Unlocks, Calls, Takes, TakesUp, Stands}
-use Rattle.psci_port.specs.Port.{Arms, Sleeps, Delivers, Wakes, Resets, Writes, Opens, Cuts}
-use Rattle.psci_port.specs.Port.{Act, Reboots, Rouses, Rises, Turns, blank, cold, with_row}
-use Rattle.psci_port.proofs.CellRows.{both_come, last_off, life_1, off_by}
+use Rattle.psci_world_spec.proofs.Scripts.{board, limited}
+use Rattle.psci_port.specs.Stages.{Stage, Standing, AtDoor, Entering, Normal, Leaving, Armed, Woken}
+use Rattle.psci_port.specs.Port.{Act, Locks, Unlocks, Enters, Takes, Finishes, TakesUp, Stands, Arms}
+use Rattle.psci_port.specs.Port.{Sleeps, Delivers, Wakes, Resets, Rouses, Rises, Turns, Writes, Opens}
+use Rattle.psci_port.specs.Port.{Cuts, Port, Restarts, Reboots, blank, cold, with_row}
+use Rattle.psci_port.specs.Resting.{Goes, IsDue, is_entering}
 use Rattle.psci_port.specs.Rules.{AreTrue, IsPortRun, IsTrue, May}
-use Rattle.psci_port.proofs.Playing.{after, asks, comes, delivers, door, off_3}
-use Rattle.psci_port.proofs.Playing.{off_called, on_3}
-use Rattle.psci_port.proofs.Playing.{playing}
+use Rattle.psci_port.proofs.CellRows.{both_come, last_off, life_1, off_by, started_meanwhile}
+use Rattle.psci_port.proofs.Playing.{after, asks, comes, delivers, door, down_3, of_3, off_3}
+use Rattle.psci_port.proofs.Playing.{is_some, off_called, on_3, playing}
 
--- a message of life 1, of core 3 in its start
-abbrev pub of_3 : Kind → ℕ → List Part → MessageValue
-of_3 kind number parts =
-    record { kind = kind; core = record { number = 3 }; life = 1; number = number; parts = parts }
+-- What is refused --------------------------------------------------------------------------------
 
-abbrev pub down_3 : MessageValue
-down_3 = of_3 Down 1 (part 0 3 1 ∷ part 1 3 1 ∷ [])
+-- this act is refused in a port, and after these acts
+abbrev RefusedIn : Port → Act → Type 0
+RefusedIn p act = May board p act → ⊥
 
-abbrev is_normal : Stage → Bool
-is_normal Normal = true
-is_normal Standing = false
-is_normal AtDoor = false
-is_normal (Entering s) = false
-is_normal Leaving = false
-is_normal Armed = false
-is_normal Woken = false
+abbrev Refused : List Act → Act → Type 0
+Refused acts act = RefusedIn (after acts) act
 
--- The lock ---------------------------------------------------------------------------------------
-
-no_second_holder : May board (after off_called) (Locks 0) → ⊥
+-- a second holder of the lock, one that is inside a call, a call without the lock, and one of a core
+-- that leaves; a core that stands, sleeps, is reset or woken with the lock in hand
+without_the_lock :
+    Refused off_called (Locks 0)
+    × Refused (on_3 ++ (Locks 0 ∷ asks 0 0x84000000 0 0 0 ∷ [])) (Unlocks 0)
+    × Refused on_3 (Takes 0 0 Absent)
+    × Refused off_called (asks 3 0x84000000 0 0 0)
+    × Refused off_called (Stands 3)
+    × Refused (off_3 ++ (delivers 1 ∷ [])) (Stands 3)
+    × Refused (off_called ++ (Arms 3 ∷ [])) (Sleeps 3)
+    × Refused off_called (Resets 3)
+    × Refused (off_called ++ (Arms 3 ∷ [])) (Wakes 3)
+    × Refused off_called (Wakes 3)
 unfolding playing
-no_second_holder may = none-some _ (sym may.1)
+without_the_lock = search arith
 
-no_unlock_inside : May board (after (on_3 ++ (Locks 0 ∷ asks 0 0x84000000 0 0 0 ∷ [])))
-    (Unlocks 0) → ⊥
+-- a start is taken up once, at an open door, by a core that was started and is not held; a door is
+-- written before it is opened; what switches a core waits until that stands, and a start for the lock
+at_its_door :
+    Refused off_3 (TakesUp 3)
+    × Refused (on_3 ++ door 3 ++ (Resets 3 ∷ [])) (TakesUp 3)
+    × RefusedIn (with_row (after on_3) 0 (record ((after on_3).row 0) { opened = 2 })) (TakesUp 0)
+    × Refused (off_called ++ (Arms 3 ∷ Rises 3 ∷ []) ++ door 3) (TakesUp 3)
+    × Refused (started_meanwhile ++ (Locks 3 ∷ []) ++ door 3) (TakesUp 3)
+    × Refused on_3 (Opens 3)
+    × Refused (on_3 ++ door 3) (Writes 3)
+    × Refused off_called (Delivers 1 down_3)
+    × Refused off_called (Delivers 9 (of_3 kinds.Start 1 []))
+    × Refused (off_called ++ (Arms 3 ∷ [])) (Delivers 9 (of_3 kinds.Start 1 []))
 unfolding playing
-no_unlock_inside may = none-some _ (sym may.1)
-
-no_call_without_the_lock : May board (after on_3) (Takes 0 0 Absent) → ⊥
-unfolding playing
-no_call_without_the_lock may = none-some _ may.0
-
-no_call_of_a_leaving_core : May board (after off_called)
-    (Calls 3 (record { x0 = 0x84000000; x1 = 0; x2 = 0; x3 = 0 }) Absent) → ⊥
-unfolding playing
-no_call_of_a_leaving_core may = leaving_is_not may.2
-  where
-    leaving_is_not : Leaving ≡ Normal → ⊥
-    leaving_is_not e = false≢true (ap is_normal e)
-
--- Starts -----------------------------------------------------------------------------------------
-
-no_start_twice : May board (after off_3) (TakesUp 3) → ⊥
-unfolding playing
-no_start_twice may = false≢true (sym may.2)
-
-no_start_while_held : May board (after (on_3 ++ door 3 ++ (Resets 3 ∷ []))) (TakesUp 3) → ⊥
-unfolding playing
-no_start_while_held may = false≢true (sym may.1)
-
-no_open_door_first : May board (after on_3) (Opens 3) → ⊥
-unfolding playing
-no_open_door_first shows = none-some _ shows
-
-no_second_text_at_an_open_door : May board (after (on_3 ++ door 3)) (Writes 3) → ⊥
-unfolding playing
-no_second_text_at_an_open_door may = false≢true (sym may)
-
-no_wake_of_a_core_that_runs : May board (after off_called) (Wakes 3) → ⊥
-unfolding playing
-no_wake_of_a_core_that_runs may = false≢true may.1
-
--- Stops and power --------------------------------------------------------------------------------
-
-no_stop_with_the_lock : May board (after off_called) (Stands 3) → ⊥
-unfolding playing
-no_stop_with_the_lock may = may.1 refl
-
-no_second_stop : May board (after (off_3 ++ (delivers 1 ∷ []))) (Stands 3) → ⊥
-unfolding playing
-no_second_stop may = stopped may.0
-  where
-    stopped : Standing ≡ Leaving → ⊥
-    stopped e = false≢true (sym (ap has_stopped e))
-
-no_sleep_with_the_lock : May board (after (off_called ++ (Arms 3 ∷ []))) (Sleeps 3) → ⊥
-unfolding playing
-no_sleep_with_the_lock may = may.1 refl
-
-no_down_of_a_core_that_runs : May board (after off_called) (Delivers 1 down_3) → ⊥
-unfolding playing
-no_down_of_a_core_that_runs may = false≢true (sym may.1)
-
-no_start_of_a_core_that_runs : May board (after off_called) (Delivers 9 (of_3 Start 1 [])) → ⊥
-unfolding playing
-no_start_of_a_core_that_runs may = false≢true (sym may.1)
-
-no_start_with_the_lock : May board (after (off_called ++ (Arms 3 ∷ [])))
-    (Delivers 9 (of_3 Start 1 [])) → ⊥
-unfolding playing
-no_start_with_the_lock may = may.2 refl refl refl
-
--- one that starts nobody waits for nothing, though its core has the lock
-goes_at_once : May board (after off_called) (Delivers 9 (of_3 Start 0 []))
-unfolding playing
-goes_at_once = (
-  record {
-    message = record { core = omega arith; parts = refl };
-    board = record { core = omega arith; levels = omega arith };
-  },
-  refl,
-  λ touched. absurd (false≢true touched),
-)
-
-no_rise_of_a_core_that_runs : May board (after off_called) (Rises 3) → ⊥
-unfolding playing
-no_rise_of_a_core_that_runs may = false≢true (ap has_stopped may.1)
-
-no_rouse_of_a_core_that_runs : May board (after off_called) (Rouses 3) → ⊥
-unfolding playing
-no_rouse_of_a_core_that_runs may = false≢true may.1
-
-no_rise_without_the_lock : May board (after (off_called ++ (Arms 3 ∷ Unlocks 3 ∷ []))) (Rises 3)
-    → ⊥
-unfolding playing
-no_rise_without_the_lock may = none-some _ may.2.0
-
-no_turn_with_the_lock : May board (after (off_called ++ (Arms 3 ∷ Rises 3 ∷ []))) (Turns 3) → ⊥
-unfolding playing
-no_turn_with_the_lock may = may.1 refl
-
-no_start_taken_up_with_the_lock : May board
-    (after (off_called ++ (Arms 3 ∷ Rises 3 ∷ []) ++ door 3)) (TakesUp 3) → ⊥
-unfolding playing
-no_start_taken_up_with_the_lock may = may.3 refl
-
-no_start_taken_up_in_the_world : May board
-    (with_row (after on_3) 0 (record ((after on_3).row 0) { opened = 2 })) (TakesUp 0) → ⊥
-unfolding playing
-no_start_taken_up_in_the_world may = false≢true may.0
-
-no_wake_with_the_lock : May board (after (off_called ++ (Arms 3 ∷ []))) (Wakes 3) → ⊥
-unfolding playing
-no_wake_with_the_lock may = may.2 refl
-
-no_reset_with_the_lock : May board (after off_called) (Resets 3) → ⊥
-unfolding playing
-no_reset_with_the_lock may = may.1 refl
-
-no_cut_of_what_is_on : May board (after off_3) (Cuts 0 3) → ⊥
-unfolding playing
-no_cut_of_what_is_on may = none_below (may.0)
-  where
-    none_below : 0 < 0 → ⊥
-    none_below e = omega (arith, e)
-
-no_cut_above_an_armed_core : May board (after (off_called ++ (Arms 3 ∷ delivers 1 ∷ [])))
-    (Cuts 1 1) → ⊥
-unfolding playing
-no_cut_above_an_armed_core may = false≢true (sym (may.1 3 (omega arith) refl))
-
--- at each level above the boot core, the last one
-abbrev armed_0 : List Act
-armed_0 = last_off ++ (Arms 0 ∷ delivers 2 ∷ [])
-
-no_cut_of_an_armed_core : May board (after armed_0) (Cuts 0 0) → ⊥
-unfolding playing
-no_cut_of_an_armed_core may = false≢true (sym (may.1 0 (omega arith) refl))
-
-no_cut_of_the_first_cluster_above_it : May board (after armed_0) (Cuts 1 0) → ⊥
-unfolding playing
-no_cut_of_the_first_cluster_above_it may = false≢true (sym (may.1 0 (omega arith) refl))
-
-no_cut_of_the_system_above_it : May board (after armed_0) (Cuts 2 0) → ⊥
-unfolding playing
-no_cut_of_the_system_above_it may = false≢true (sym (may.1 0 (omega arith) refl))
-
-no_life_after_none : May board (record (after []) {
-  values = record ((after []).values) { life = None };
-}) Reboots → ⊥
-unfolding playing
-no_life_after_none may = none-some _ may.1.1.0
-
-no_life_after_the_last : May board (record (after []) {
-  values = record ((after []).values) { life = Some 3 };
-}) Reboots → ⊥
-unfolding playing
-no_life_after_the_last may = beyond may.1.0 may.1.1.0 may.1.1.1
-  where
-    beyond : (l : ℕ) → Some 3 ≡ Some l → l < 3 → ⊥
-    beyond l e low = let same : 3 ≡ l = grind arith in omega (arith, same, low)
-
--- The four newest acts, of the boot core and in a later life --------------------------------------
+at_its_door = search arith
 
 abbrev off_0 : List Act
 off_0 = door 0 ++ comes 0 ++ off_by 0
 
-no_rise_of_the_boot_core_without_the_lock : May board (after (off_0 ++ (Arms 0 ∷ Unlocks 0 ∷ [])))
-    (Rises 0) → ⊥
-unfolding playing
-no_rise_of_the_boot_core_without_the_lock may = none-some _ may.2.0
-
-no_turn_of_the_boot_core_with_the_lock : May board (after (off_0 ++ (Arms 0 ∷ Rises 0 ∷ [])))
-    (Turns 0) → ⊥
-unfolding playing
-no_turn_of_the_boot_core_with_the_lock may = may.1 refl
-
-no_rouse_of_the_boot_core_that_runs : May board (after off_0) (Rouses 0) → ⊥
-unfolding playing
-no_rouse_of_the_boot_core_that_runs may = false≢true may.1
-
 abbrev off_in_life_2 : List Act
 off_in_life_2 = life_1 ++ both_come 1 ++ off_by 3
 
-no_rise_in_life_2_without_the_lock : May board
-    (after (off_in_life_2 ++ (Arms 3 ∷ Unlocks 3 ∷ []))) (Rises 3) → ⊥
+-- an interrupt brings back none that runs; an armed core hears its wake-up with the lock in hand,
+-- and turns to its door without: the boot core and another one, in life 2 too, and of the board
+by_itself :
+    Refused off_called (Rouses 3)
+    × Refused off_0 (Rouses 0)
+    × Refused [] (Rouses 4)
+    × Refused off_called (Rises 3)
+    × Refused (started_meanwhile ++ (Locks 3 ∷ [])) (Rises 3)
+    × Refused (off_called ++ (Arms 3 ∷ Unlocks 3 ∷ [])) (Rises 3)
+    × Refused (off_0 ++ (Arms 0 ∷ Unlocks 0 ∷ [])) (Rises 0)
+    × Refused (off_in_life_2 ++ (Arms 3 ∷ Unlocks 3 ∷ [])) (Rises 3)
+    × RefusedIn (record (with_row (after []) 4 (blank Armed)) { lock = Some 4 }) (Rises 4)
+    × Refused on_3 (Turns 0)
+    × Refused (off_called ++ (Arms 3 ∷ Rises 3 ∷ [])) (Turns 3)
+    × Refused (off_0 ++ (Arms 0 ∷ Rises 0 ∷ [])) (Turns 0)
+    × Refused (off_in_life_2 ++ (Arms 3 ∷ Rises 3 ∷ [])) (Turns 3)
 unfolding playing
-no_rise_in_life_2_without_the_lock may = none-some _ may.2.0
+by_itself = search arith
 
-no_turn_in_life_2_with_the_lock : May board (after (off_in_life_2 ++ (Arms 3 ∷ Rises 3 ∷ [])))
-    (Turns 3) → ⊥
+abbrev armed_0 : List Act
+armed_0 = last_off ++ (Arms 0 ∷ delivers 2 ∷ [])
+
+-- power goes from nothing that is on, and from nothing above an armed core, at each level; and no
+-- life follows on none, or on the last
+power_stays :
+    Refused off_3 (Cuts 0 3)
+    × Refused (off_called ++ (Arms 3 ∷ delivers 1 ∷ [])) (Cuts 1 1)
+    × Refused armed_0 (Cuts 0 0)
+    × Refused armed_0 (Cuts 1 0)
+    × Refused armed_0 (Cuts 2 0)
+    × RefusedIn (record (after []) { values = record ((after []).values) { life = None } }) Reboots
+    × RefusedIn (record (after []) { values = record ((after []).values) { life = Some 3 } })
+    Reboots
+    × (May (limited 0 3) (cold (limited 0 3) []) Reboots → ⊥)
 unfolding playing
-no_turn_in_life_2_with_the_lock may = may.1 refl
-
-no_turn_of_a_core_that_runs : May board (after on_3) (Turns 0) → ⊥
-unfolding playing
-no_turn_of_a_core_that_runs may = false≢true (ap is_woken may.0)
-  where
-    is_woken : Stage → Bool
-    is_woken Woken = true
-    is_woken Standing = false
-    is_woken AtDoor = false
-    is_woken (Entering s) = false
-    is_woken Normal = false
-    is_woken Leaving = false
-    is_woken Armed = false
-
--- core 4 is none of the board
-no_rouse_beyond_the_board : May board (after []) (Rouses 4) → ⊥
-unfolding playing
-no_rouse_beyond_the_board may = let on = may.0 in omega (arith, on)
-
-no_rise_beyond_the_board : May board (record (with_row (after []) 4 (blank Armed)) {
-  lock = Some 4;
-}) (Rises 4) → ⊥
-unfolding playing
-no_rise_beyond_the_board may = let on = may.0 in omega (arith, on)
-
--- a board without starts is none
-no_life_of_no_board : May (limited 0 3) (cold (limited 0 3) []) Reboots → ⊥
-no_life_of_no_board may = let some = may.0.some_starts in omega (arith, some)
+power_stays = search arith
 
 -- What is allowed --------------------------------------------------------------------------------
 
-opens_its_door : IsPortRun board (TakesUp 0 ∷ Opens 0 ∷ Writes 0 ∷ [])
+-- a start that starts nobody waits for nothing, though its core has the lock; one that was started
+-- meanwhile takes the lock all the same, or its start up at once
+allowed :
+    May board (after off_called) (Delivers 9 (of_3 kinds.Start 0 []))
+    × May board (after started_meanwhile) (Locks 3)
+    × May board (after (started_meanwhile ++ door 3)) (TakesUp 3)
+    × IsPortRun board (TakesUp 0 ∷ Opens 0 ∷ Writes 0 ∷ [])
+    × AreTrue board (TakesUp 0 ∷ Opens 0 ∷ Writes 0 ∷ [])
 unfolding playing
-opens_its_door = ((refl, refl, refl, λ at. none-some 0 at), (refl, (refl, tt)))
+allowed = search arith
 
-is_true_so : AreTrue board (TakesUp 0 ∷ Opens 0 ∷ Writes 0 ∷ [])
+invents_nothing : IsTrue board (after off_3) (Delivers 1 (of_3 kinds.Start 1 [])) → ⊥
 unfolding playing
-is_true_so = (tt, (tt, (tt, tt)))
+invents_nothing = search arith
 
-invents_nothing : IsTrue board (after off_3) (Delivers 1 (of_3 Start 1 [])) → ⊥
+-- What is due ------------------------------------------------------------------------------------
+
+-- due after these acts
+abbrev Due : List Act → Act → Type 0
+Due acts act = IsDue board (after acts) act
+
+-- A core that runs after some acts is reset, and goes its way into the firmware; it ends a call there,
+-- and gives the lock back; it goes off, and stands; or it is armed and sleeps, or wakes itself.
+abbrev DueOf : List Act → ℕ → Type 0
+DueOf on c =
+    Due (on ++ (Resets c ∷ [])) (Writes c)
+    × Due (on ++ (Resets c ∷ Writes c ∷ [])) (Opens c)
+    × Due (on ++ (Resets c ∷ []) ++ door c) (TakesUp c)
+    × Due (on ++ (Resets c ∷ []) ++ door c ++ (TakesUp c ∷ [])) (Locks c)
+    × Due (on ++ (Resets c ∷ []) ++ door c ++ (TakesUp c ∷ Locks c ∷ [])) (Enters c Absent)
+    × Due (on ++ (Locks c ∷ asks c 0x84000000 0 0 0 ∷ [])) (Finishes c)
+    × Due (on ++ (Locks c ∷ asks c 0x84000000 0 0 0 ∷ Finishes c ∷ [])) (Unlocks c)
+    × Due (on ++ off_by c) (Arms c)
+    × Due (on ++ off_by c ++ (Unlocks c ∷ [])) (Stands c)
+    × Due (on ++ off_by c ++ (Arms c ∷ [])) (Unlocks c)
+    × Due (on ++ off_by c ++ (Arms c ∷ Unlocks c ∷ [])) (Sleeps c)
+    × Due (on ++ off_by c ++ (Arms c ∷ Rises c ∷ [])) (Unlocks c)
+    × Due (on ++ off_by c ++ (Arms c ∷ Rises c ∷ Unlocks c ∷ [])) (Turns c)
+
+-- the call that it ends, and the start that it enters by
+begun : (o : Option Record) → is_some o ≡ true → (r : Record) × (o ≡ Some r)
+begun None e = absurd (false≢true e)
+begun (Some r) e = (r, refl)
+
+entering : (y : Stage) → is_entering y ≡ true → (s : Start) × (y ≡ Entering s)
+entering Standing e = absurd (false≢true e)
+entering AtDoor e = absurd (false≢true e)
+entering (Entering s) e = (s, refl)
+entering Normal e = absurd (false≢true e)
+entering Leaving e = absurd (false≢true e)
+entering Armed e = absurd (false≢true e)
+entering Woken e = absurd (false≢true e)
+
+core_3_is_due : DueOf (both_come 0) 3
 unfolding playing
-invents_nothing e = kinds_differ (kind_of e)
-  where
-    kind_of : Some down_3 ≡ Some (of_3 Start 1 []) → Down ≡ Start
-    kind_of e = grind arith
+core_3_is_due = search (arith, none-some, begun, entering)
 
-    kinds_differ : Down ≡ Start → ⊥
-    kinds_differ e = grind arith
+boot_core_is_due : DueOf (both_come 0) 0
+unfolding playing
+boot_core_is_due = search (arith, none-some, begun, entering)
+
+core_3_is_due_in_life_2 : DueOf (life_1 ++ both_come 1) 3
+unfolding playing
+core_3_is_due_in_life_2 = search (arith, none-some, begun, entering)
+
+boot_core_is_due_in_life_2 : DueOf (life_1 ++ both_come 1) 0
+unfolding playing
+boot_core_is_due_in_life_2 = search (arith, none-some, begun, entering)
+
+-- What never is ----------------------------------------------------------------------------------
+
+-- after these acts a port does not do this by itself
+abbrev Never : List Act → Act → Type 0
+Never acts act = Goes board (after acts) act → ⊥
+
+-- frames, wake-ups, interrupts, cuts, resets and calls come from outside
+from_outside :
+    Never on_3 (Takes 0 0 Absent) × Never on_3 (Takes 3 0 Absent)
+    × Never on_3 (Wakes 0) × Never on_3 (Wakes 3)
+    × Never on_3 (Resets 0) × Never on_3 (Resets 3)
+    × Never on_3 (Rouses 0) × Never on_3 (Rouses 3)
+    × Never on_3 (Rises 0) × Never on_3 (Rises 3)
+    × Never on_3 (Cuts 1 0) × Never on_3 (Cuts 1 3)
+    × Never on_3 Restarts × Never on_3 Reboots
+    × Never on_3 (asks 0 0x84000000 0 0 0)
+from_outside = search arith
+
+-- a core on its way in keeps the lock, one of the normal world takes none; and what stands at a door
+-- is not written again, nor what is open opened
+once :
+    Never (door 0 ++ (TakesUp 0 ∷ Locks 0 ∷ [])) (Unlocks 0)
+    × Never on_3 (Locks 0)
+    × Never (Writes 0 ∷ []) (Writes 0)
+    × Never (door 0) (Opens 0)
+unfolding playing
+once = search arith

@@ -17,13 +17,13 @@ use Rattle.psci_sides.specs.Frames.{EachServes, IsEnding, IsLeft, IsLost, IsOut,
 use Rattle.psci_sides.specs.Frames.{IsUnderWay, IsWanted, Serves, is_end_of, most_served}
 use Rattle.psci_sides.specs.Frames.{most_visit, visits}
 use Rattle.psci_board.specs.Board.{cores}
-use Rattle.psci_sides.specs.Machine.{IsIn, Machine}
+use Rattle.psci_sides.specs.Machine.{Machine}
 use Rattle.psci_sides.specs.Steps.{BeginCall, Carry, DeliverKept, DeliverMail, GiveLock}
 use Rattle.psci_sides.specs.Steps.{Hear, KeepBack, SendAgain, Stand, Step, TakeAck, TakeLock}
-use Rattle.psci_sides.proofs.ArmedRows.{code}
-use Rattle.psci_sides.proofs.Pair.{ack_of, anew, both_run, cpu_off, done, goes_off, inside_off}
-use Rattle.psci_sides.proofs.Pair.{off_message}
-use Rattle.psci_sides.proofs.Pair.{on_message, pair, playing, stands_off, start, turns_on}
+use Rattle.psci_sides.proofs.Framed.{nothing_in}
+use Rattle.psci_sides.proofs.Pair.{ack_of, anew, both_run, code, cpu_off, done, goes_off, inside_off}
+use Rattle.psci_sides.proofs.Pair.{off_message, on_message, pair, playing, stands_off, start, turns_on}
+use Rattle.psci_sides.proofs.StepRows.{off_sendable}
 
 -- Core 0 has asked core 1 on, and the frame is in the mailbox; it is lost; core 1 was started.
 abbrev asked_on : List Step
@@ -32,34 +32,26 @@ asked_on = take 11 turns_on
 abbrev lost_on : List Step
 lost_on = asked_on ++ (Carry [] [] ∷ [])
 
+-- its Down waits at its gate, and it stands; that is heard
+abbrev keeps_off : List Step
+keeps_off = inside_off ++ (KeepBack off_message ∷ Carry [] [] ∷ GiveLock 1 ∷ Stand 1 ∷ [])
+
 -- What is under way ------------------------------------------------------------------------------
-
-on_is_out : IsOut (done asked_on) on_message
-unfolding playing
-on_is_out = refl
-
-on_is_under_way : IsUnderWay (done asked_on) on_message
-unfolding playing
-on_is_under_way = inl (0, refl)
-
--- the Down of core 1 waits at its gate
-off_is_kept : IsUnderWay (done (inside_off ++ (KeepBack off_message ∷ Carry [] [] ∷ [])))
-    off_message
-unfolding playing
-off_is_kept = inr refl
 
 on_ends : IsEnding (done turns_on) on_message
 unfolding playing
 on_ends = (ack_of on_message, ((0, refl), refl))
+
+under_way : IsOut (done asked_on) on_message × IsUnderWay (done asked_on) on_message
+    × IsUnderWay (done keeps_off) off_message
+unfolding playing
+under_way = (refl, inl (0, refl), inr refl)
 
 -- an acknowledgement of another message, and one that leaves parts, end nothing
 ends_its_own : (is_end_of (ack_of on_message) on_message ≡ true)
     × (is_end_of (ack_of on_message) off_message ≡ false)
     × (is_end_of (record (ack_of off_message) { applied = 0 }) off_message ≡ false)
 ends_its_own = (refl, refl, refl)
-
-nothing_in : {A : Type 0} {x : A} → IsIn [] x → ⊥
-nothing_in at = none-some _ at.1
 
 on_is_lost : IsLost (done lost_on) on_message
 unfolding playing
@@ -72,10 +64,8 @@ on_is_lost = record {
 }
 
 -- not where a frame is under way, nor where its end alone is
-abbrev acked_on : List Step
-acked_on = turns_on ++ (Carry [] (ack_of on_message ∷ []) ∷ [])
-
-not_lost : (IsLost (done asked_on) on_message → ⊥) × (IsLost (done acked_on) on_message → ⊥)
+not_lost : (IsLost (done asked_on) on_message → ⊥)
+    × (IsLost (done (turns_on ++ (Carry [] (ack_of on_message ∷ []) ∷ []))) on_message → ⊥)
 unfolding playing
 not_lost = (
   λ l. l.frame (inl (0, refl)),
@@ -118,107 +108,60 @@ not_wanted = (
 
 -- Steps that serve -------------------------------------------------------------------------------
 
+-- this step serves after these, or does not
+abbrev ServesAfter : List Step → Step → Type 0
+ServesAfter steps x = Serves pair (done steps) x
+
+abbrev ServesNot : List Step → Step → Type 0
+ServesNot steps x = ServesAfter steps x → ⊥
+
 on_sendable : IsSendable pair on_message
-on_sendable = record {
-  message = record { core = omega arith; parts = refl };
-  board = record { core = omega arith; levels = omega arith };
-}
+on_sendable = search arith
 
-off_sendable : IsSendable pair off_message
-off_sendable = record {
-  message = record {
-    core = omega arith;
-    parts = record { some = omega arith; most = omega arith; levels = refl; depths = refl };
-  };
-  board = record { core = omega arith; levels = omega arith };
-}
-
-delivers_on : Serves pair (done asked_on) (DeliverMail on_message (done asked_on).control anew)
-unfolding playing changing.after reply
-delivers_on = (
-  (0, refl),
-  on_sendable,
-  refl,
-  λ kind armed. absurd (eqb-false 0 4 refl (ap code armed)),
-  on_is_wanted,
-)
-
--- its core has to be heard before its Down is carried out, from the mailbox or the gate
-abbrev keeps_off : List Step
-keeps_off = inside_off ++ (KeepBack off_message ∷ Carry [] [] ∷ GiveLock 1 ∷ Stand 1 ∷ [])
-
-hears_off : Serves pair (done keeps_off) (Hear 1)
-unfolding playing
-hears_off = (omega arith, λ e. eqb-false 0 1 refl e)
-
-delivers_kept : Serves pair (done (keeps_off ++ (Hear 1 ∷ [])))
+-- a frame is delivered, from the gate once its core was heard; a core of the normal world comes in
+-- for an end and for what was lost, takes the one, and sends the other again
+serves : ServesAfter asked_on (DeliverMail on_message (done asked_on).control anew)
+    × ServesAfter keeps_off (Hear 1)
+    × ServesAfter (keeps_off ++ (Hear 1 ∷ []))
     (DeliverKept 1 off_message (done keeps_off).control anew)
+    × ServesAfter turns_on (TakeLock 0)
+    × ServesAfter lost_on (TakeLock 0)
+    × ServesAfter (turns_on ++ (TakeLock 0 ∷ [])) (TakeAck 0 (ack_of on_message) anew)
+    × ServesAfter (lost_on ++ (TakeLock 0 ∷ [])) (SendAgain 0 1)
 unfolding playing changing.after reply
-delivers_kept = (
-  omega arith,
-  refl,
-  off_sendable,
-  refl,
-  λ kind. absurd (cc),
-  record {
-    out = refl;
-    unended = λ e. nothing_in e.1.0;
-    brings = λ s. false≢true (sym s.left);
-  },
-)
-
--- a core of the normal world comes in for an end, and for what was lost; it takes the one, and
--- sends the other again
-comes_in_for : Serves pair (done turns_on) (TakeLock 0) × Serves pair (done lost_on) (TakeLock 0)
-unfolding playing
-comes_in_for = (
+serves = (
+  (
+    (0, refl),
+    on_sendable,
+    refl,
+    λ kind armed. absurd (eqb-false 0 4 refl (ap code armed)),
+    on_is_wanted,
+  ),
+  (omega arith, λ e. eqb-false 0 1 refl e),
+  (
+    omega arith,
+    refl,
+    off_sendable,
+    refl,
+    λ kind. absurd (cc),
+    record {
+      out = refl;
+      unended = λ e. nothing_in e.1.0;
+      brings = λ s. false≢true (sym s.left);
+    },
+  ),
   (omega arith, refl, refl, (on_message, (omega arith, (refl, inl on_ends)))),
   (omega arith, refl, refl, (on_message, (omega arith, (refl, inr on_is_lost)))),
-)
-
-takes_and_sends :
-    Serves pair (done (turns_on ++ (TakeLock 0 ∷ []))) (TakeAck 0 (ack_of on_message) anew)
-    × Serves pair (done (lost_on ++ (TakeLock 0 ∷ []))) (SendAgain 0 1)
-unfolding playing
-takes_and_sends = (
   ((omega arith, refl, refl), (0, refl), (on_message, (refl, refl))),
   (
     (omega arith, refl, refl),
-    (
-      on_message,
-      (
-        refl,
-        record {
-          frame = on_is_lost.frame;
-          ack = on_is_lost.ack;
-        },
-      ),
-    ),
+    (on_message, (refl, record { frame = on_is_lost.frame; ack = on_is_lost.ack })),
   ),
 )
 
 -- Steps that do not ------------------------------------------------------------------------------
 
--- what waits is not due; what is not in the mailbox is delivered from nowhere
-delivers_not : (Serves pair (done inside_off) (DeliverMail off_message
-    (done inside_off).control anew)
-    → ⊥) × (Serves pair (done lost_on) (DeliverMail on_message (done lost_on).control anew) → ⊥)
-    × (Serves pair (done stands_off) (DeliverKept 1 on_message (done stands_off).control anew) → ⊥)
-unfolding playing
-delivers_not = (
-  λ s. false≢true (sym s.2),
-  λ s. nothing_in s.0,
-  λ s. not_on s.1,
-)
-  where
-    not_on : Some off_message ≡ Some on_message → ⊥
-    not_on e = eqb-false 1 0 refl (ap number e)
-
-hears_once : Serves pair (done stands_off) (Hear 1) → ⊥
-unfolding playing
-hears_once s = s.1 refl
-
--- nothing is outstanding once core 1 is off, so no core comes in, and nothing is taken
+-- nothing is outstanding once core 1 is off
 none_at : (n : ℕ) → slice_index_or {A = Option MessageValue} (None ∷ None ∷ []) n None ≡ None
 none_at zero = refl
 none_at (suc zero) = refl
@@ -235,28 +178,37 @@ none_out kinds.Reset core x e = none-some x e
 nothing_left : IsLeft pair (done goes_off) → ⊥
 nothing_left left = none_out left.0.kind left.0.core left.0 left.1.1.0
 
-serves_no_more : (Serves pair (done goes_off) (TakeLock 0) → ⊥)
-    × (Serves pair (done (goes_off ++ (TakeLock 0 ∷ []))) (TakeAck 0 (ack_of off_message) anew) → ⊥)
-    × (Serves pair (done (goes_off ++ (TakeLock 0 ∷ []))) (SendAgain 0 1) → ⊥)
+-- what waits is not due, what is not in the mailbox or at a gate is delivered from nowhere, and a
+-- word is heard once; no core comes in, takes or sends where nothing is outstanding, nor one that
+-- stands, or that has no lock to take; a call is from outside, and a frame kept back serves nothing
+serves_not : ServesNot inside_off (DeliverMail off_message (done inside_off).control anew)
+    × ServesNot lost_on (DeliverMail on_message (done lost_on).control anew)
+    × ServesNot stands_off (DeliverKept 1 on_message (done stands_off).control anew)
+    × ServesNot stands_off (Hear 1)
+    × ServesNot goes_off (TakeLock 0)
+    × ServesNot (goes_off ++ (TakeLock 0 ∷ [])) (TakeAck 0 (ack_of off_message) anew)
+    × ServesNot (goes_off ++ (TakeLock 0 ∷ [])) (SendAgain 0 1)
+    × ServesNot lost_on (TakeLock 1)
+    × ServesNot (lost_on ++ (TakeLock 0 ∷ [])) (TakeLock 0)
+    × ServesNot both_run (BeginCall 0 cpu_off)
+    × ServesNot inside_off (KeepBack off_message)
 unfolding playing
-serves_no_more = (
+serves_not = (
+  λ s. false≢true (sym s.2),
+  λ s. nothing_in s.0,
+  λ s. not_on s.1,
+  λ s. s.1 refl,
   λ s. nothing_left s.3,
   λ s. none_out s.2.0.kind s.2.0.core s.2.0 s.2.1.0,
   λ s. none-some s.1.0 s.1.1.0,
-)
-
--- who stands comes in for nothing, nor does one that has no lock to take; a call is from outside
-comes_not : (Serves pair (done lost_on) (TakeLock 1) → ⊥)
-    × (Serves pair (done (lost_on ++ (TakeLock 0 ∷ []))) (TakeLock 0) → ⊥)
-    × (Serves pair (done both_run) (BeginCall 0 cpu_off) → ⊥)
-    × (Serves pair (done inside_off) (KeepBack off_message) → ⊥)
-unfolding playing
-comes_not = (
   λ s. eqb-false 0 2 refl (ap code s.2),
   λ s. none-some 0 (sym s.1),
   λ s. s,
   λ s. s,
 )
+  where
+    not_on : Some off_message ≡ Some on_message → ⊥
+    not_on e = eqb-false 1 0 refl (ap number e)
 
 -- How many ---------------------------------------------------------------------------------------
 

@@ -2,7 +2,7 @@
 -- the firmware waits for one message, of which a frame is in the mailbox.
 use Rattle.std.proofs.Common.{◌∙◌, ◌∷◌, ◌≡◌, [], ap, Bool, false, inl, inr, List, None}
 use Rattle.std.proofs.Common.{Option, refl, Some, subst, suc, sym, true, zero, ℕ}
-use Rattle.std.specs.Prelude.{replicate}
+use Rattle.std.specs.Prelude.{if◌then◌else◌, replicate}
 use Rattle.std.proofs.lemmas.Option.{none-some}
 use Rattle.psci_board.specs.Board.{BoardValue}
 use Rattle.psci_board.specs.declared.node.Core.{Core}
@@ -125,10 +125,6 @@ framed_and_ended b x = stood b x Running (this x) (x ∷ []) (end_of x ∷ [])
 abbrev pub ended : BoardValue → MessageValue → Machine
 ended b x = stood b x Running (this x) [] (end_of x ∷ [])
 
--- a part of it was done, which is in the mailbox
-abbrev pub begun : BoardValue → MessageValue → Machine
-begun b x = stood b x Running (this x) [] (record (end_of x) { applied = 0 } ∷ [])
-
 -- the power controller has no life left
 abbrev pub lifeless : BoardValue → MessageValue → Machine
 lifeless b x =
@@ -143,6 +139,10 @@ unheard b x =
 abbrev pub kept : ℕ → BoardValue → MessageValue → Machine
 kept word b x =
     record (lost b x) { control = control b (Some x.life) (replicate 4 (gate word (Some x))) }
+
+-- the number by which a core sends this message again
+abbrev pub slot_number : MessageValue → ℕ
+slot_number x = if ends_by x.kind then 4 else x.core.number
 
 -- a core has the lock
 abbrev pub holding : ℕ → Machine → Machine

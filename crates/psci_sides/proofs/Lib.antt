@@ -37,13 +37,8 @@ pub mod Finite
 pub mod Pair
 mod MachineRows
 mod StepRows
-mod ArmedRows
-mod StartedRows
 mod MadeRows
 mod RestRows
 mod FrameRows
 mod Framed
-mod WantedRows
 mod ServingRows
-mod VisitRows
-mod EndRows

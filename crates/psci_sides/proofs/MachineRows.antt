@@ -1,12 +1,11 @@
--- Worked examples: a run of a machine of two cores, and for each clause of a step, and of what
--- holds of a machine, a state that breaks it.
-use Rattle.std.proofs.Common.{◌∷◌, ◌++◌, ◌≡◌, [], ap, arith, false, inl, inr, refl, sym, true, ℕ}
-use Rattle.std.proofs.Common.{◌<◌, Bool, length, List, map, Option, None, Some}
+-- Worked examples: a run of a machine of two cores, which acts its steps are, and for each clause of
+-- what holds of a machine a state that breaks it.
+use Rattle.std.proofs.Common.{◌∷◌, ◌++◌, ◌≡◌, [], arith, Bool, false, inl, inr, length, List, map}
+use Rattle.std.proofs.Common.{◌<◌, None, Option, refl, Some, sym, true, ℕ}
 use Rattle.std.proofs.lemmas.Bool.{eqb-false, false≢true}
 use Rattle.std.proofs.lemmas.Option.{none-some}
-use Rattle.psci_messages.specs.declared.start.Cause.{Cause}
+use Rattle.psci_board.proofs.Tables.{◌⇒◌, Gives}
 use Rattle.psci_messages.specs.declared.start.Cause.TheVariants as causes
-use Rattle.psci_messages.specs.declared.start.Start.{Start}
 use Rattle.psci_ctl_spec.specs.declared.call.CtlCall.TheVariants as asked
 use Rattle.psci_fw_spec.specs.declared.call.FwCall.TheVariants as calls
 use Rattle.psci_control.specs.declared.door.DoorOrder.TheVariants.{Open, Write}
@@ -15,136 +14,114 @@ use Rattle.psci_control.specs.declared.order.Order.TheVariants.{End, Raise, Swit
 use Rattle.psci_control.specs.ControlSide.{waits_in}
 use Rattle.psci_enter.specs.declared.order.Look.TheVariants as look
 use Rattle.psci_enter.specs.declared.post.Post.{Post}
-use Rattle.psci_enter.specs.declared.post.Post.TheVariants.{Waiting, Leaving}
-use Rattle.psci_port.specs.Port.{Cuts, Locks, Stands, TakesUp, Unlocks, Writes}
+use Rattle.psci_enter.specs.declared.post.Post.TheVariants.{Waiting, Entering, Leaving, Armed, Woken}
+use Rattle.psci_port.specs.Port.{Arms, Cuts, Locks, Rises, Rouses, Sleeps, Stands, TakesUp, Turns}
+use Rattle.psci_port.specs.Port.{Unlocks, Writes}
 use Rattle.psci_sides.specs.Kept.{Agree, AllStill, IsLocked, IsStill, NoneCut, NoneLost}
-use Rattle.psci_sides.specs.Kept.{TakesItsLast}
-use Rattle.psci_sides.specs.Kept.{executes}
-use Rattle.psci_sides.specs.Machine.{Machine, carried, empty, new_side, with_core}
+use Rattle.psci_sides.specs.Kept.{TakesItsLast, executes, hearing}
+use Rattle.psci_sides.specs.Machine.{Machine, carried, empty, has_stood, new_side, with_core}
 use Rattle.psci_sides.specs.Seen.{Shows}
-use Rattle.psci_sides.specs.Steps.{BeginCall, BeginEntry, CutPower, GiveLock}
-use Rattle.psci_sides.specs.Steps.{LookAtDoor, ServeDoor, Stand}
-use Rattle.psci_sides.specs.Steps.{Step, TakeLock, after, came_back, due_at, found_in}
-use Rattle.psci_sides.proofs.Pair.{anew, boot, both_run, cpu_off, done, first_start, goes_off}
-use Rattle.psci_sides.proofs.Pair.{inside_off, off_message, on_start, pair, playing, stands_off}
-use Rattle.psci_sides.proofs.Pair.{turns_on}
+use Rattle.psci_sides.specs.Steps.{ArmCore, BeginEntry, CutPower, GiveLock, Hear, LookAtDoor}
+use Rattle.psci_sides.specs.Steps.{RiseCore, RouseCore, ServeDoor, SleepCore, Stand, Step, TakeLock}
+use Rattle.psci_sides.specs.Steps.{TurnCore, after, came_back, due_at, found_in, may_hold, wake_of}
+use Rattle.psci_sides.proofs.Pair.{anew, arms_off, boot, both_run, cpu_off, done, first_start}
+use Rattle.psci_sides.proofs.Pair.{goes_off, inside_a_call, inside_off, off_again, off_message, on_start}
+use Rattle.psci_sides.proofs.Pair.{open_on, pair, playing, rises_off, roused_off, sleeps_off, stands_off}
+use Rattle.psci_sides.proofs.Pair.{started_again, started_armed, turns_off, turns_on}
 
 -- The run ----------------------------------------------------------------------------------------
 
+-- its wake-up waits where it was started meanwhile, though its word is heard, and it asks in vain;
+-- it gives the lock back, turns to its door, and finds its start there
+abbrev locked_armed : List Step
+locked_armed = started_armed ++ (TakeLock 1 ∷ [])
+
+abbrev told_nothing : List Step
+told_nothing = locked_armed ++ (Hear 1 ∷ RiseCore 1 (started_again causes.On) ∷ [])
+
+abbrev at_its_door : List Step
+at_its_door = told_nothing ++ (GiveLock 1 ∷ SleepCore 1 ∷ ServeDoor 1 ∷ ServeDoor 1 ∷ [])
+
 -- what is seen of core 1: its post, the start that it used and its word; whether it has no power
--- and how deep it was ordered; how many messages and acknowledgements were put in the mailbox
-pub record Shown : Type 0 where
-  pub post : Post
-  pub used : ℕ
-  pub word : ℕ
-  pub cut : Bool
-  pub depth : ℕ
-  pub mail : ℕ
-  pub acks : ℕ
-  pub lock : Option ℕ
-
-abbrev pub shown : List Step → Shown
+-- and how deep it was ordered; how many messages and acknowledgements were put in the mailbox; and
+-- who has the lock
+abbrev shown : List Step → Post × ℕ × ℕ × Bool × ℕ × ℕ × ℕ × Option ℕ
 shown steps =
-    let m = done steps in record {
-      post = (m.side 1).post;
-      used = (m.side 1).used;
-      word = (m.station 1).word;
-      cut = m.cut 0 1;
-      depth = m.depth 0 1;
-      mail = length m.mail;
-      acks = length m.acks;
-      lock = m.lock;
-    }
+    let m = done steps in (
+      (m.side 1).post,
+      (m.side 1).used,
+      (m.station 1).word,
+      m.cut 0 1,
+      m.depth 0 1,
+      length m.mail,
+      length m.acks,
+      m.lock,
+    )
 
-boots : shown boot ≡ record {
-  post = Waiting;
-  used = 0;
-  word = 0;
-  cut = true;
-  depth = 3;
-  mail = 0;
-  acks = 0;
-  lock = None;
-}
+each_shown : Gives shown
+    (boot ⇒ (Waiting, 0, 0, true, 3, 0, 0, None)
+    ∷ turns_on ⇒ (Waiting, 0, 0, false, 0, 1, 1, None)
+    ∷ inside_off ⇒ (Leaving, 1, 0, false, 0, 2, 1, Some 1)
+    ∷ stands_off ⇒ (Waiting, 1, 1, false, 0, 2, 1, None)
+    ∷ goes_off ⇒ (Waiting, 1, 1, true, 3, 2, 2, None)
+    ∷ arms_off ⇒ (Armed, 1, 1, false, 3, 2, 2, Some 1)
+    ∷ sleeps_off ⇒ (Waiting, 1, 1, true, 3, 2, 2, None)
+    ∷ roused_off ⇒ (Armed, 1, 1, false, 3, 2, 2, None)
+    ∷ rises_off ⇒ (Woken, 1, 1, false, 0, 2, 2, Some 1)
+    ∷ turns_off ⇒ (Waiting, 1, 1, false, 0, 2, 2, None)
+    ∷ told_nothing ⇒ (Armed, 1, 1, false, 0, 2, 3, Some 1)
+    ∷ (at_its_door ++ (LookAtDoor 1 false ∷ TakeLock 1 ∷ []))
+    ⇒ (Entering (record { life = 1; number = 2; cause = causes.On }), 2, 1, false, 0, 2, 3, Some 1)
+    ∷ [])
 unfolding playing
-boots = refl
+each_shown = refl
 
-is_turned_on : shown turns_on ≡ record {
-  post = Waiting;
-  used = 0;
-  word = 0;
-  cut = false;
-  depth = 0;
-  mail = 1;
-  acks = 1;
-  lock = None;
-}
-unfolding playing
-is_turned_on = refl
-
-calls_cpu_off : shown inside_off ≡ record {
-  post = Leaving;
-  used = 1;
-  word = 0;
-  cut = false;
-  depth = 0;
-  mail = 2;
-  acks = 1;
-  lock = Some 1;
-}
-unfolding playing
-calls_cpu_off = refl
-
-stands : shown stands_off ≡ record {
-  post = Waiting;
-  used = 1;
-  word = 1;
-  cut = false;
-  depth = 0;
-  mail = 2;
-  acks = 1;
-  lock = None;
-}
-unfolding playing
-stands = refl
-
-is_off : shown goes_off ≡ record {
-  post = Waiting;
-  used = 1;
-  word = 1;
-  cut = true;
-  depth = 3;
-  mail = 2;
-  acks = 2;
-  lock = None;
-}
-unfolding playing
-is_off = refl
-
--- its Down waits until it stands and was heard
-its_down_waits : map (λ steps. waits_in (done steps).control (asked.Deliver off_message))
-    (inside_off ∷ stands_off ∷ []) ≡ true ∷ false ∷ []
+-- its Down waits until it stands and was heard, and while it runs whatever is heard; and so do that
+-- of its new start, and its wake-up, once it was started meanwhile
+its_down_waits : map (λ (m : Machine). waits_in m.control (asked.Deliver off_message))
+    (done inside_off ∷ done stands_off ∷ done (inside_off ++ (ArmCore 1 ∷ [])) ∷ done arms_off
+    ∷ hearing (done both_run) 1 ∷ []) ≡ true ∷ false ∷ true ∷ false ∷ true ∷ []
 unfolding playing
 its_down_waits = refl
 
--- it executes from its start until it stands
+waits_though_heard : map (λ (m : Machine). (waits_in m.control (wake_of m 1)))
+    (done locked_armed ∷ done (locked_armed ++ (Hear 1 ∷ [])) ∷ []) ≡ true ∷ true ∷ []
+unfolding playing
+waits_though_heard = refl
+
+its_new_down_waits : waits_in (hearing (done locked_armed) 1).control (asked.Deliver off_again) ≡ true
+unfolding playing
+its_new_down_waits = refl
+
+-- it executes from its start until it stands, or sleeps, and again once it is roused
 executes_when : map (λ steps. executes (done steps) 1)
-    (boot ∷ turns_on ∷ both_run ∷ inside_off ∷ stands_off ∷ goes_off ∷ [])
-    ≡ false ∷ true ∷ true ∷ true ∷ false ∷ false ∷ []
+    (boot ∷ turns_on ∷ both_run ∷ inside_off ∷ stands_off ∷ goes_off ∷ arms_off ∷ sleeps_off
+    ∷ roused_off ∷ rises_off ∷ turns_off ∷ [])
+    ≡ false ∷ true ∷ true ∷ true ∷ false ∷ false ∷ true ∷ false ∷ true ∷ true ∷ true ∷ []
 unfolding playing
 executes_when = refl
 
+-- whether it stands in its last start; and an armed core may have the lock, though it was started
+stands_armed : map {B = Bool × Bool} (λ steps.
+    (has_stood (done steps) 1, may_hold ((done steps).side 1).post))
+    (arms_off ∷ sleeps_off ∷ roused_off ∷ rises_off ∷ started_armed ∷ [])
+    ≡ (true, true) ∷ (true, false) ∷ (true, true) ∷ (false, true) ∷ (false, true) ∷ []
+unfolding playing
+stands_armed = refl
+
 -- its start is written before its door is opened for it; then nothing is due
 door_in_turn : map (λ steps. due_at (done steps) 1)
-    (turns_on ∷ (turns_on ++ (ServeDoor 1 ∷ [])) ∷ both_run ∷ [])
-    ≡ Some (Write on_start) ∷ Some (Open 1) ∷ None ∷ []
+    (turns_on ∷ (turns_on ++ (ServeDoor 1 ∷ [])) ∷ both_run ∷ turns_off ∷ [])
+    ≡ Some (Write on_start) ∷ Some (Open 1) ∷ None
+    ∷ Some (Write (record { life = 1; number = 2; cause = causes.Wake })) ∷ []
 unfolding playing
 door_in_turn = refl
 
 -- and it takes that up once it is open, and once
 looks_once : map (λ steps. found_in (done steps) 1 false)
-    ((turns_on ++ (ServeDoor 1 ∷ [])) ∷ (turns_on ++ (ServeDoor 1 ∷ ServeDoor 1 ∷ []))
-    ∷ stands_off ∷ []) ≡ look.Rest ∷ look.Enter ∷ look.Rest ∷ []
+    ((turns_on ++ (ServeDoor 1 ∷ [])) ∷ open_on ∷ stands_off
+    ∷ (turns_off ++ (ServeDoor 1 ∷ ServeDoor 1 ∷ [])) ∷ at_its_door ∷ [])
+    ≡ look.Rest ∷ look.Enter ∷ look.Rest ∷ look.Enter ∷ look.Enter ∷ []
 unfolding playing
 looks_once = refl
 
@@ -168,59 +145,76 @@ carried_out : map {B = ℕ × ℕ} (λ (m : Machine). (m.depth 0 1, m.depth 1 0)
 unfolding playing
 carried_out = refl
 
-powered_up : map {B = Bool × Option ℕ} (λ (m : Machine). (m.cut 0 1, m.lock))
+-- what an end leaves of the power, the lock, and core 1
+life_ends : map {B = Bool × Option ℕ × Post × ℕ} (λ (m : Machine).
+    (m.cut 0 1, m.lock, (m.side 1).post, (m.station 1).word))
     (carried pair anew (Raise (record { number = 1 }) ∷ []) (done boot)
     ∷ carried pair anew (End endings.Off ∷ []) (done inside_off)
+    ∷ carried pair anew (End endings.Off ∷ []) (done stands_off)
     ∷ carried pair anew (End endings.Restart ∷ []) (done inside_off) ∷ [])
-    ≡ (false, None) ∷ (false, None) ∷ (true, None) ∷ []
-unfolding playing
-powered_up = refl
-
-life_ends : map {B = Post × ℕ} (λ (m : Machine). ((m.side 1).post, (m.station 1).word))
-    (carried pair anew (End endings.Off ∷ []) (done stands_off)
-    ∷ carried pair anew (End endings.Restart ∷ []) (done inside_off) ∷ [])
-    ≡ (Waiting, 0) ∷ (Waiting, 0) ∷ []
+    ≡ (false, None, Waiting, 0) ∷ (false, None, Waiting, 0) ∷ (false, None, Waiting, 0)
+    ∷ (true, None, Waiting, 0) ∷ []
 unfolding playing
 life_ends = refl
 
-abbrev inside_a_call : List Step
-inside_a_call = both_run ++ (TakeLock 1 ∷ BeginCall 1 cpu_off ∷ [])
+-- Which acts a step is; one that was started meanwhile turns to its door, and asks in vain
+shows : Shows (done both_run) (TakeLock 1) (Locks 1 ∷ [])
+    × Shows (done both_run) (GiveLock 1) (Unlocks 1 ∷ [])
+    × Shows (done both_run) (Stand 1) (Stands 1 ∷ [])
+    × Shows (done turns_on) (ServeDoor 1) (Writes 1 ∷ [])
+    × Shows (done both_run) (ServeDoor 1) []
+    × Shows (done open_on) (LookAtDoor 1 false) (TakesUp 1 ∷ [])
+    × Shows (done stands_off) (LookAtDoor 1 false) []
+    × Shows (done stands_off) (CutPower 0 1) (Cuts 0 1 ∷ [])
+    × Shows (done inside_off) (ArmCore 1) (Arms 1 ∷ [])
+    × Shows (done arms_off) (SleepCore 1) (Sleeps 1 ∷ [])
+    × Shows (done started_armed) (SleepCore 1) (Turns 1 ∷ [])
+    × Shows (done sleeps_off) (RouseCore 1) (Rouses 1 ∷ [])
+    × Shows (done roused_off) (RiseCore 1 (started_again causes.Wake)) (Rises 1 ∷ [])
+    × Shows (done locked_armed) (RiseCore 1 (started_again causes.On)) []
+    × Shows (done rises_off) (TurnCore 1) (Turns 1 ∷ [])
+unfolding playing
+shows = (refl, refl, refl, refl, refl, refl, refl, refl, refl, refl, refl, refl, refl, refl, refl)
 
 -- What breaks what holds -------------------------------------------------------------------------
 
-dark : NoneCut pair (record (done both_run) { cut = λ level place. true }) → ⊥
+-- the power, of a core that runs and of an armed one; the depth; and the lock
+of_power_and_lock : (NoneCut pair (record (done both_run) { cut = λ level place. true }) → ⊥)
+    × (NoneCut pair (record (done arms_off) { cut = λ level place. true }) → ⊥)
+    × (NoneCut pair (record (done both_run) { depth = λ level place. 3 }) → ⊥)
+    × (IsLocked pair (record (done stands_off) { lock = Some 1 }) → ⊥)
+    × (IsLocked pair (record (done inside_a_call) { lock = None }) → ⊥)
 unfolding playing
-dark is = false≢true (sym (is.powered 1 0 (omega arith) (omega arith) refl))
+of_power_and_lock = (
+  λ is. false≢true (sym (is.powered 1 0 (omega arith) (omega arith) refl)),
+  λ is. false≢true (sym (is.powered 1 0 (omega arith) (omega arith) refl)),
+  λ is. eqb-false 3 0 refl (is.awake 1 0 (omega arith) (omega arith) refl),
+  λ is. false≢true (is.holder 1 (omega arith) refl),
+  λ is. none-some 1 (is.inside 1 (calls.Smc cpu_off) (omega arith) refl),
+)
 
-deep_too_early : NoneCut pair (record (done both_run) { depth = λ level place. 3 }) → ⊥
-unfolding playing
-deep_too_early is = eqb-false 3 0 refl (is.awake 1 0 (omega arith) (omega arith) refl)
-
-lock_kept_over_a_stop : IsLocked pair (record (done stands_off) { lock = Some 1 }) → ⊥
-unfolding playing
-lock_kept_over_a_stop is = false≢true (is.holder 1 (omega arith) refl)
-
-inside_without_the_lock : IsLocked pair (record (done inside_a_call) { lock = None }) → ⊥
-unfolding playing
-inside_without_the_lock is =
-    none-some 1 (is.inside 1 (calls.Smc cpu_off) (omega arith) refl)
-
--- a core that waits, and whose word was not said: its wake-up waits for ever
-abbrev unsaid : Machine
-unsaid = record (done stands_off) {
-  station = λ k. record ((done stands_off).station k) { word = 0 };
+-- a core that waits, or is armed, and whose word was not said: its wake-up waits for ever
+abbrev unsaid : List Step → Machine
+unsaid steps = record (done steps) {
+  station = λ k. record ((done steps).station k) { word = 0 };
 }
 
-wake_lost : NoneLost pair unsaid → ⊥
+wake_lost : (NoneLost pair (unsaid stands_off) → ⊥) × (NoneLost pair (unsaid roused_off) → ⊥)
 unfolding playing
-wake_lost not = elim (not 1 (omega arith) refl) [
-  | inl low ↦ let no : 1 < 1 = low in absurd (omega (arith, no))
-  | inr stood ↦ false≢true (sym stood.1)
-]
+wake_lost = (
+  λ not. elim (not 1 (omega arith) refl) [
+    | inl low ↦ let no : 1 < 1 = low in absurd (omega (arith, no))
+    | inr stood ↦ false≢true (sym stood.1)
+  ],
+  λ not. elim (not 1 (omega arith) refl) [
+    | inl low ↦ let no : 1 < 1 = low in absurd (omega (arith, no))
+    | inr stood ↦ false≢true (sym stood.1)
+  ],
+)
 
 -- a door that is open for another start than stands there
 abbrev another_start : Machine
-another_start = with_core (done (turns_on ++ (ServeDoor 1 ∷ ServeDoor 1 ∷ []))) 1 (new_side 1)
+another_start = with_core (done open_on) 1 (new_side 1)
     (record empty { door = record { opened = 1; start = None } })
 
 takes_another : TakesItsLast another_start (LookAtDoor 1 false) → ⊥
@@ -229,53 +223,19 @@ takes_another last = none-some on_start ((last refl).0)
 
 enters_by_another : TakesItsLast (done turns_on) (BeginEntry 1 first_start) → ⊥
 unfolding playing
-enters_by_another last = false≢true (ap is_boot last)
-  where
-    is_boot : Option Start → Bool
-    is_boot None = false
-    is_boot (Some s) = by s.cause
-      where
-        by : Cause → Bool
-        by causes.Boot = true
-        by causes.On = false
-        by causes.Wake = false
-        by causes.Reset = false
+enters_by_another last = search arith
 
--- At rest ----------------------------------------------------------------------------------------
-
-still_1 : IsStill (done goes_off) 1
+-- a core is in the normal world, and one off; what is due is no rest, and what is outstanding no
+-- agreement
+at_rest : IsStill (done goes_off) 1 × IsStill (done goes_off) 0
+    × (IsStill (done turns_on) 1 → ⊥) × (IsStill (done inside_a_call) 1 → ⊥)
+    × (AllStill pair (done inside_off) → ⊥) × (Agree pair (done stands_off) → ⊥)
 unfolding playing
-still_1 = record { opened = refl; used = refl; lent = refl; post = inr refl }
-
-still_0 : IsStill (done goes_off) 0
-unfolding playing
-still_0 = record { opened = refl; used = refl; lent = refl; post = inl refl }
-
-not_still : (IsStill (done turns_on) 1 → ⊥) × (IsStill (done inside_a_call) 1 → ⊥)
-unfolding playing
-not_still = (
+at_rest = (
+  record { opened = refl; used = refl; lent = refl; post = inr refl },
+  record { opened = refl; used = refl; lent = refl; post = inl refl },
   λ is. eqb-false 0 1 refl is.opened,
   λ is. none-some _ (sym is.lent),
+  λ is. none-some 1 (sym is.free),
+  λ is. none-some off_message (sym (is.own 1 (omega arith))),
 )
-
-not_all_still : AllStill pair (done inside_off) → ⊥
-unfolding playing
-not_all_still is = none-some 1 (sym is.free)
-
-not_agreed : Agree pair (done stands_off) → ⊥
-unfolding playing
-not_agreed is = none-some off_message (sym (is.own 1 (omega arith)))
-
--- Which acts a step is ---------------------------------------------------------------------------
-
-shows : Shows (done both_run) (TakeLock 1) (Locks 1 ∷ [])
-    × Shows (done both_run) (GiveLock 1) (Unlocks 1 ∷ [])
-    × Shows (done both_run) (Stand 1) (Stands 1 ∷ [])
-    × Shows (done turns_on) (ServeDoor 1) (Writes 1 ∷ [])
-    × Shows (done both_run) (ServeDoor 1) []
-    × Shows (done (turns_on ++ (ServeDoor 1 ∷ ServeDoor 1 ∷ []))) (LookAtDoor 1 false)
-    (TakesUp 1 ∷ [])
-    × Shows (done stands_off) (LookAtDoor 1 false) []
-    × Shows (done stands_off) (CutPower 0 1) (Cuts 0 1 ∷ [])
-unfolding playing
-shows = (refl, refl, refl, refl, refl, refl, refl, refl)

@@ -19,6 +19,9 @@ use Rattle.psci_fw_state.specs.Seen.{values_in}
 use Rattle.psci_fw_state.specs.declared.row.CoreRow.{CoreRow}
 use Rattle.psci_control.specs.declared.gate.Gate.{Gate}
 use Rattle.psci_control.specs.ControlSide.{ControlValue, closed}
+use Rattle.psci_enter.specs.declared.post.Post.{Post}
+use Rattle.psci_enter.specs.declared.post.Post.TheVariants.{Waiting, Entering, Running, Leaving}
+use Rattle.psci_enter.specs.declared.post.Post.TheVariants.{Armed, Woken}
 use Rattle.psci_world_spec.proofs.Scripts.{computing}
 use Rattle.psci_sides.specs.Machine.{Machine, carried, cold}
 use Rattle.psci_sides.specs.Steps.{BeginCall, BeginEntry, CutPower, DeliverMail, EndCall, GiveLock}
@@ -175,10 +178,18 @@ turns_on = boot ++ (TakeLock 0 ∷ BeginCall 0 cpu_on ∷ EndCall 0 called_on �
     ∷ DeliverMail on_message (control 1 0 (open_door first_start 0) closed) anew ∷ [])
 
 -- core 1 goes through its door and enters, with the acknowledgement taken
+abbrev pub open_on : List Step
+open_on = turns_on ++ (ServeDoor 1 ∷ ServeDoor 1 ∷ [])
+
+abbrev pub looked_on : List Step
+looked_on = open_on ++ (LookAtDoor 1 false ∷ [])
+
 abbrev pub both_run : List Step
-both_run = turns_on ++ (ServeDoor 1 ∷ ServeDoor 1 ∷ LookAtDoor 1 false ∷ TakeLock 1
-    ∷ TakeAck 1 (ack_of on_message) taken_on ∷ BeginEntry 1 on_start ∷ EndCall 1 both_on
-    ∷ GiveLock 1 ∷ [])
+both_run = looked_on ++ (TakeLock 1 ∷ TakeAck 1 (ack_of on_message) taken_on
+    ∷ BeginEntry 1 on_start ∷ EndCall 1 both_on ∷ GiveLock 1 ∷ [])
+
+abbrev pub inside_a_call : List Step
+inside_a_call = both_run ++ (TakeLock 1 ∷ BeginCall 1 cpu_off ∷ [])
 
 -- it calls CPU_OFF, and has the lock
 abbrev pub inside_off : List Step
@@ -241,6 +252,15 @@ off_again = record off_message {
   number = 2;
   parts = record { level = 0; depth = 3; generation = 2 } ∷ [];
 }
+
+-- where a monitor is, as a number
+abbrev pub code : Post → ℕ
+code Waiting = 0
+code (Entering s) = 1
+code Running = 2
+code Leaving = 3
+code Armed = 4
+code Woken = 5
 
 -- what examples unfold
 unfoldable pub playing : Unit {0}

@@ -1,60 +1,51 @@
 -- Worked examples: which steps a machine takes by itself, how many, and where it is at rest.
-use Rattle.std.proofs.Common.{◌∷◌, ◌++◌, ◌≡◌, [], ap, arith, false, inl, inr, refl, reverse, sym}
-use Rattle.std.proofs.Common.{◌*◌, ◌<◌, List, Some, suc, true, zero, ℕ}
-use Rattle.std.proofs.lemmas.Bool.{eqb-false, false≢true}
+use Rattle.std.proofs.Common.{◌*◌, ◌∷◌, ◌++◌, ◌≡◌, ◌<◌, [], ap, arith, false, inl, inr, List, refl}
+use Rattle.std.proofs.Common.{reverse, Some, suc, sym, zero, ℕ}
+use Rattle.std.proofs.lemmas.Bool.{eqb-false}
 use Rattle.std.proofs.lemmas.Option.{none-some}
 use Rattle.psci_board.specs.Board.{cores}
-use Rattle.psci_ctl_spec.specs.declared.call.CtlCall.TheVariants as asked
 use Rattle.psci_fw_spec.specs.declared.call.FwCall.TheVariants as calls
-use Rattle.psci_control.specs.ControlSide.{waits_in}
 use Rattle.psci_control.specs.declared.door.DoorOrder.TheVariants.{Write}
-use Rattle.psci_enter.specs.declared.order.Look.{Look}
-use Rattle.psci_enter.specs.declared.order.Look.TheVariants as look
 use Rattle.psci_enter.specs.declared.post.Post.TheVariants.{Running}
-use Rattle.psci_sides.specs.Kept.{IsStill, hearing}
+use Rattle.psci_sides.specs.Kept.{IsStill}
 use Rattle.psci_sides.specs.Machine.{closed_door}
 use Rattle.psci_sides.specs.Resting.{EachGoes, Goes, IsAtRest, most_steps}
 use Rattle.psci_sides.specs.Steps.{ArmCore, BeginCall, BeginEntry, EndCall, GiveLock, LookAtDoor}
 use Rattle.psci_sides.specs.Steps.{RouseCore, ServeDoor, SleepCore, Stand, Step, TakeLock, TurnCore}
-use Rattle.psci_sides.proofs.ArmedRows.{code}
-use Rattle.psci_sides.proofs.Pair.{anew, arms_off, both_run, cpu_off, done, goes_off}
-use Rattle.psci_sides.proofs.Pair.{inside_off, off_message, on_start, pair, playing, rises_off}
-use Rattle.psci_sides.proofs.Pair.{roused_off, start, started_armed, turns_on}
-
-abbrev looked : List Step
-looked = turns_on ++ (ServeDoor 1 ∷ ServeDoor 1 ∷ LookAtDoor 1 false ∷ [])
-
-abbrev calling : List Step
-calling = both_run ++ (TakeLock 1 ∷ BeginCall 1 cpu_off ∷ [])
+use Rattle.psci_sides.proofs.Pair.{anew, arms_off, both_run, code, cpu_off, done, goes_off}
+use Rattle.psci_sides.proofs.Pair.{inside_a_call, inside_off, looked_on, off_message, on_start, open_on}
+use Rattle.psci_sides.proofs.Pair.{pair, playing, rises_off, roused_off, start, started_armed, turns_on}
 
 -- Steps that go ----------------------------------------------------------------------------------
 
--- core 1 goes from its door to the normal world
-its_way_in : Goes pair (done turns_on) (ServeDoor 1)
-    × Goes pair (done (turns_on ++ (ServeDoor 1 ∷ ServeDoor 1 ∷ []))) (LookAtDoor 1 false)
-    × Goes pair (done looked) (TakeLock 1)
-    × Goes pair (done (looked ++ (TakeLock 1 ∷ []))) (BeginEntry 1 on_start)
-    × Goes pair (done (looked ++ (TakeLock 1 ∷ BeginEntry 1 on_start ∷ []))) (EndCall 1 anew)
+-- the machine goes on by this step after these, or does not
+abbrev GoesOn : List Step → Step → Type 0
+GoesOn steps x = Goes pair (done steps) x
+
+abbrev Stays : List Step → Step → Type 0
+Stays steps x = GoesOn steps x → ⊥
+
+-- core 1 goes from its door to the normal world, and from its call to its stop, in either way
+its_way : GoesOn turns_on (ServeDoor 1)
+    × GoesOn open_on (LookAtDoor 1 false)
+    × GoesOn looked_on (TakeLock 1)
+    × GoesOn (looked_on ++ (TakeLock 1 ∷ [])) (BeginEntry 1 on_start)
+    × GoesOn (looked_on ++ (TakeLock 1 ∷ BeginEntry 1 on_start ∷ [])) (EndCall 1 anew)
+    × GoesOn inside_a_call (EndCall 1 anew)
+    × GoesOn inside_off (GiveLock 1)
+    × GoesOn (inside_off ++ (GiveLock 1 ∷ [])) (Stand 1)
+    × GoesOn inside_off (ArmCore 1)
+    × GoesOn (arms_off ++ (GiveLock 1 ∷ [])) (SleepCore 1)
+    × GoesOn (rises_off ++ (GiveLock 1 ∷ [])) (TurnCore 1)
+    × GoesOn (started_armed ++ (TakeLock 1 ∷ [])) (GiveLock 1)
+    × GoesOn started_armed (SleepCore 1)
 unfolding playing
-its_way_in = (
+its_way = (
   (omega arith, (Write on_start, refl)),
   (omega arith, refl, refl, refl, λ e. none-some 1 e),
   (omega arith, refl, refl),
   ((omega arith, refl, refl), refl),
   (omega arith, (calls.Enter on_start, refl)),
-)
-
--- and from its call to its stop, in either way
-its_way_out : Goes pair (done calling) (EndCall 1 anew)
-    × Goes pair (done inside_off) (GiveLock 1)
-    × Goes pair (done (inside_off ++ (GiveLock 1 ∷ []))) (Stand 1)
-    × Goes pair (done inside_off) (ArmCore 1)
-    × Goes pair (done (arms_off ++ (GiveLock 1 ∷ []))) (SleepCore 1)
-    × Goes pair (done (rises_off ++ (GiveLock 1 ∷ []))) (TurnCore 1)
-    × Goes pair (done (started_armed ++ (TakeLock 1 ∷ []))) (GiveLock 1)
-    × Goes pair (done started_armed) (SleepCore 1)
-unfolding playing
-its_way_out = (
   (omega arith, (calls.Smc cpu_off, refl)),
   ((omega arith, refl, refl), refl),
   (omega arith, refl, λ e. none-some 1 e),
@@ -67,59 +58,26 @@ its_way_out = (
 
 -- Steps that do not ------------------------------------------------------------------------------
 
--- a core of the normal world goes nowhere by itself
-takes_no_lock_in_the_world : Goes pair (done both_run) (TakeLock 1) → ⊥
+-- a core of the normal world goes nowhere by itself, and none is roused; one that enters keeps the
+-- lock until it has, and one with the lock takes no start up; a door that is served is done with;
+-- and where it waits a core goes on by nothing
+stays : Stays both_run (TakeLock 1)
+    × Stays both_run (BeginCall 1 cpu_off)
+    × Stays goes_off (RouseCore 1)
+    × Stays (looked_on ++ (TakeLock 1 ∷ [])) (GiveLock 1)
+    × Stays (started_armed ++ (TakeLock 1 ∷ ServeDoor 1 ∷ ServeDoor 1 ∷ [])) (LookAtDoor 1 false)
+    × Stays both_run (ServeDoor 1)
+    × Stays goes_off (LookAtDoor 1 false)
+    × Stays goes_off (Stand 1)
+    × Stays goes_off (ArmCore 1)
+    × Stays goes_off (SleepCore 1)
+    × Stays goes_off (TurnCore 1)
 unfolding playing
-takes_no_lock_in_the_world goes = false≢true goes.2
-
-calls_nothing : Goes pair (done both_run) (BeginCall 1 cpu_off) → ⊥
-calls_nothing goes = goes
-
-is_roused_from_outside : Goes pair (done goes_off) (RouseCore 1) → ⊥
-is_roused_from_outside goes = goes
-
--- one that enters keeps the lock until it has
-gives_no_lock_before_it_enters : Goes pair (done (looked ++ (TakeLock 1 ∷ []))) (GiveLock 1) → ⊥
-unfolding playing
-gives_no_lock_before_it_enters goes = false≢true (sym goes.1)
-
--- a door that is served is done with
-serves_no_door : Goes pair (done both_run) (ServeDoor 1) → ⊥
-unfolding playing
-serves_no_door goes = none-some _ goes.1.1
-
-looks_no_more : Goes pair (done goes_off) (LookAtDoor 1 false) → ⊥
-unfolding playing
-looks_no_more goes = eqb-false 0 1 refl (ap look_code goes.3)
-  where
-    look_code : Look → ℕ
-    look_code look.Rest = 0
-    look_code look.Enter = 1
-    look_code (look.Tell word) = 2
-
-looks_not_with_the_lock : Goes pair
-    (done (started_armed ++ (TakeLock 1 ∷ ServeDoor 1 ∷ ServeDoor 1 ∷ []))) (LookAtDoor 1 false) → ⊥
-unfolding playing
-looks_not_with_the_lock goes = goes.4 refl
-
-stands_not_where_it_waits : Goes pair (done goes_off) (Stand 1) → ⊥
-unfolding playing
-stands_not_where_it_waits goes = eqb-false 0 3 refl (ap code goes.1)
-
-arms_not_where_it_waits : Goes pair (done goes_off) (ArmCore 1) → ⊥
-unfolding playing
-arms_not_where_it_waits goes = eqb-false 0 3 refl (ap code goes.1)
-
-sleeps_not_where_it_waits : Goes pair (done goes_off) (SleepCore 1) → ⊥
-unfolding playing
-sleeps_not_where_it_waits goes = eqb-false 0 4 refl (ap code goes.1)
-
-turns_not_where_it_waits : Goes pair (done goes_off) (TurnCore 1) → ⊥
-unfolding playing
-turns_not_where_it_waits goes = eqb-false 0 5 refl (ap code goes.1)
+stays = search arith
 
 -- At rest ----------------------------------------------------------------------------------------
 
+-- a core has the lock, is armed, or has a start to take up
 not_at_rest : (IsAtRest pair (done inside_off) → ⊥) × (IsAtRest pair (done roused_off) → ⊥)
     × (IsAtRest pair (done turns_on) → ⊥)
 unfolding playing
@@ -160,27 +118,19 @@ stays_off (suc zero) has = record { opened = refl; used = refl; lent = refl; pos
 stays_off (suc (suc c)) has = absurd (omega (arith, has))
 
 -- what breaks each clause alone
-not_at_rest_with_the_lock : IsAtRest pair (record (done both_run) { lock = Some 1 }) → ⊥
-not_at_rest_with_the_lock is = none-some 1 (sym is.free)
-
-not_at_rest_while_shut : IsAtRest pair (record (done both_run) {
-  station = λ k. record ((done both_run).station k) { door = closed_door };
-}) → ⊥
+breaks_rest : (IsAtRest pair (record (done both_run) { lock = Some 1 }) → ⊥)
+    × (IsAtRest pair (record (done both_run) {
+      station = λ k. record ((done both_run).station k) { door = closed_door };
+    }) → ⊥)
+    × (IsAtRest pair (record (done goes_off) {
+      station = λ k. record ((done goes_off).station k) { word = 0 };
+    }) → ⊥)
 unfolding playing
-not_at_rest_while_shut is = eqb-false 0 1 refl (is.each 1 (omega arith)).opened
-
-not_at_rest_unheard : IsAtRest pair (record (done goes_off) {
-  station = λ k. record ((done goes_off).station k) { word = 0 };
-}) → ⊥
-unfolding playing
-not_at_rest_unheard is =
-    eqb-false 0 2 refl (ap code (is.messages off_message (omega arith) refl))
-
--- its Down waits while core 1 runs on, whatever is heard
-waits_for_a_running_core : waits_in (hearing (done both_run) 1).control (asked.Deliver off_message)
-    ≡ true
-unfolding playing
-waits_for_a_running_core = refl
+breaks_rest = (
+  λ is. none-some 1 (sym is.free),
+  λ is. eqb-false 0 1 refl (is.each 1 (omega arith)).opened,
+  λ is. eqb-false 0 2 refl (ap code (is.messages off_message (omega arith) refl)),
+)
 
 -- two steps bring core 1 from the end of its call to its stop
 two_steps : EachGoes pair start (reverse inside_off) (Stand 1 ∷ GiveLock 1 ∷ [])

@@ -1,6 +1,7 @@
--- Worked examples: for each clause of what a step waits for a state that breaks it.
-use Rattle.std.proofs.Common.{◌∷◌, ◌++◌, [], ap, arith, false, refl, sym, true}
-use Rattle.std.proofs.Common.{◌<◌, Bool, List, subst, suc, zero}
+-- Worked examples: what each step waits for, by a state that has no more, and for each clause by a
+-- state that breaks it.
+use Rattle.std.proofs.Common.{◌∷◌, ◌++◌, ◌≡◌, [], ap, arith, false, List, None, refl}
+use Rattle.std.proofs.Common.{subst, suc, sym, zero, ℕ}
 use Rattle.std.proofs.lemmas.Bool.{eqb-false, false≢true}
 use Rattle.std.proofs.lemmas.Option.{none-some, same_Some}
 use Rattle.psci_messages.specs.Message.{MessageValue}
@@ -13,154 +14,159 @@ use Rattle.psci_fw_spec.specs.Values.{Values}
 use Rattle.psci_control.specs.ControlSide.{ControlValue}
 use Rattle.psci_control.specs.declared.door.DoorOrder.TheVariants.{Write}
 use Rattle.psci_enter.specs.Side.{IsAsked}
-use Rattle.psci_enter.specs.declared.post.Post.{Post}
-use Rattle.psci_enter.specs.declared.post.Post.TheVariants.{Waiting, Entering, Running, Leaving}
-use Rattle.psci_enter.specs.declared.post.Post.TheVariants.{Armed, Woken}
-use Rattle.psci_sides.specs.Steps.{BeginCall, BeginEntry, Carry, CutPower, DeliverKept}
-use Rattle.psci_sides.specs.Steps.{DeliverMail, EndCall, GiveLock, SendAgain, ServeDoor, TakeAck}
-use Rattle.psci_sides.specs.Steps.{IsDue, IsMadeAnew, MayReset, NoneArmed}
-use Rattle.psci_sides.specs.Steps.{KeepBack, LookAtDoor, May, Stand}
-use Rattle.psci_sides.specs.Steps.{Step, TakeLock, came_back}
-use Rattle.psci_sides.proofs.Restarting.{no_item}
-use Rattle.psci_sides.proofs.Pair.{ack_of, anew, boot, booted, both_run, cpu_off, done, goes_off}
-use Rattle.psci_sides.proofs.Pair.{inside_off, off_message, on_start, pair, playing, stands_off}
-use Rattle.psci_sides.proofs.Pair.{turns_on}
+use Rattle.psci_enter.specs.declared.order.Look.{Look}
+use Rattle.psci_enter.specs.declared.order.Look.TheVariants as look
+use Rattle.psci_sides.specs.Machine.{Machine}
+use Rattle.psci_sides.specs.Steps.{ArmCore, ArmedLacks, BeginCall, BeginEntry, Carry, CutPower}
+use Rattle.psci_sides.specs.Steps.{DeliverKept, DeliverMail, EndCall, GiveLock, IsDue, IsMadeAnew}
+use Rattle.psci_sides.specs.Steps.{KeepBack, LookAtDoor, May, MayReset, MayRise, NoneArmed, RiseCore}
+use Rattle.psci_sides.specs.Steps.{RouseCore, SendAgain, ServeDoor, SleepCore, Stand, Step, TakeAck}
+use Rattle.psci_sides.specs.Steps.{TakeLock, TurnCore, WakeUp, came_back, wake_of}
+use Rattle.psci_sides.proofs.Framed.{nothing_in}
+use Rattle.psci_sides.proofs.Pair.{ack_of, anew, arms_off, boot, booted, both_run, code, cpu_off, done}
+use Rattle.psci_sides.proofs.Pair.{goes_off, inside_a_call, inside_off, looked_on, off_message}
+use Rattle.psci_sides.proofs.Pair.{on_message, on_start, pair, playing, rises_off, roused_off}
+use Rattle.psci_sides.proofs.Pair.{stands_off, started_armed, turns_on}
 
--- The run waits for what it has to ----------------------------------------------------------------
+-- What a step waits for --------------------------------------------------------------------------
 
--- a step of the run waits for no more than this
-takes_the_lock : May pair (done both_run) (TakeLock 1)
+-- this step may be taken after these, or not
+abbrev Allowed : List Step → Step → Type 0
+Allowed steps x = May pair (done steps) x
+
+abbrev Refused : List Step → Step → Type 0
+Refused steps x = Allowed steps x → ⊥
+
+-- others start core 1 while it is armed, and it takes the lock
+abbrev locked_armed : List Step
+locked_armed = started_armed ++ (TakeLock 1 ∷ [])
+
+pub off_sendable : IsSendable pair off_message
+off_sendable = search arith
+
+-- the lock; calls and entries; a message that waits; a stop; a door; an armed core that others
+-- started takes the lock all the same, or its start up at once, and looks in vain with the lock
+waits_for_no_more : Allowed both_run (TakeLock 1)
+    × Allowed (looked_on ++ (TakeLock 1 ∷ [])) (BeginEntry 1 on_start)
+    × Allowed (both_run ++ (TakeLock 1 ∷ [])) (BeginCall 1 cpu_off)
+    × Allowed inside_off (SendAgain 1 1)
+    × Allowed inside_off (GiveLock 1)
+    × Allowed inside_off (KeepBack off_message)
+    × Allowed (inside_off ++ (GiveLock 1 ∷ [])) (Stand 1)
+    × IsDue (asked.Deliver off_message) (done stands_off).control
+    × Allowed turns_on (LookAtDoor 1 false)
+    × Allowed turns_on (ServeDoor 1)
+    × MayReset pair (done both_run) 1
+    × Allowed started_armed (TakeLock 1)
+    × Allowed (started_armed ++ (ServeDoor 1 ∷ ServeDoor 1 ∷ [])) (LookAtDoor 1 false)
+    × ArmedLacks (done roused_off) 1
 unfolding playing
-takes_the_lock = (omega arith, refl, refl)
-
-begins_its_entry : May pair (done (turns_on ++ (ServeDoor 1 ∷ ServeDoor 1 ∷ LookAtDoor 1 false
-    ∷ TakeLock 1 ∷ []))) (BeginEntry 1 on_start)
-unfolding playing
-begins_its_entry = ((omega arith, refl, refl), refl)
-
-begins_its_call : May pair (done (both_run ++ (TakeLock 1 ∷ []))) (BeginCall 1 cpu_off)
-unfolding playing
-begins_its_call = ((omega arith, refl, refl), refl)
-
-sends_and_unlocks : May pair (done inside_off) (SendAgain 1 1)
-    × May pair (done inside_off) (GiveLock 1)
-unfolding playing
-sends_and_unlocks = ((omega arith, refl, refl), (omega arith, refl, refl))
-
-is_sendable : IsSendable pair off_message
-is_sendable = record {
-  message = record {
-    core = omega arith;
-    parts = record { some = omega arith; most = omega arith; levels = refl; depths = refl };
-  };
-  board = record { core = omega arith; levels = omega arith };
-}
-
-is_kept_back : May pair (done inside_off) (KeepBack off_message)
-unfolding playing
-is_kept_back = ((0, refl), is_sendable, refl)
-
-stands_then : May pair (done (inside_off ++ (GiveLock 1 ∷ []))) (Stand 1)
-unfolding playing
-stands_then = (omega arith, refl, λ e. none-some 1 e)
-
-is_due_then : IsDue (asked.Deliver off_message) (done stands_off).control
-unfolding playing
-is_due_then = refl
-
-looks_and_is_served : May pair (done turns_on) (LookAtDoor 1 false)
-    × May pair (done turns_on) (ServeDoor 1)
-unfolding playing
-looks_and_is_served = (
+waits_for_no_more = (
+  (omega arith, refl, refl),
+  ((omega arith, refl, refl), refl),
+  ((omega arith, refl, refl), refl),
+  (omega arith, refl, refl),
+  (omega arith, refl, refl),
+  ((0, refl), off_sendable, refl),
+  (omega arith, refl, λ e. none-some 1 e),
+  refl,
   (omega arith, refl, refl, λ finds at. none-some 1 at),
   (omega arith, (Write on_start, refl)),
+  (omega arith, λ e. none-some 1 e, refl),
+  (omega arith, refl, refl),
+  (omega arith, refl, refl, λ finds at. none-some 1 at),
+  λ at has. none-some 1 has,
 )
-
-may_be_reset : MayReset pair (done both_run) 1
-unfolding playing
-may_be_reset = (omega arith, λ e. none-some 1 e, refl)
-
-abbrev is_armed : Post → Bool
-is_armed Waiting = false
-is_armed (Entering s) = false
-is_armed Running = false
-is_armed Leaving = false
-is_armed Armed = true
-is_armed Woken = false
 
 none_armed : NoneArmed pair (done goes_off) 0 1
 unfolding playing
-none_armed zero has below armed = absurd (false≢true (ap is_armed armed))
-none_armed (suc zero) has below armed = absurd (false≢true (ap is_armed armed))
+none_armed zero has below armed = eqb-false 2 4 refl (ap code armed)
+none_armed (suc zero) has below armed = eqb-false 0 4 refl (ap code armed)
 none_armed (suc (suc c)) has below armed = absurd (omega (arith, has))
 
-cuts_then : May pair (done goes_off) (CutPower 0 1)
+cuts_then : Allowed goes_off (CutPower 0 1)
 unfolding playing
 cuts_then = (omega arith, none_armed)
 
--- What breaks each clause of a step --------------------------------------------------------------
+loses_all : Allowed inside_off (Carry [] [])
+loses_all = (λ x at. absurd (nothing_in at), λ a at. absurd (nothing_in at))
 
-abbrev is_entering : Post → Bool
-is_entering Waiting = false
-is_entering (Entering s) = true
-is_entering Running = false
-is_entering Leaving = false
-is_entering Armed = false
-is_entering Woken = false
-
-two_with_the_lock : May pair (done inside_off) (TakeLock 0) → ⊥
+-- it asks for its wake-up, and is told nothing
+asks_in_vain : (t : ControlValue) → Allowed locked_armed (RiseCore 1 t)
 unfolding playing
-two_with_the_lock may = none-some 1 (sym may.1)
+asks_in_vain t = (((omega arith, refl, refl), refl), λ due. absurd (false≢true (sym due)))
 
-locks_while_it_waits : May pair (done stands_off) (TakeLock 1) → ⊥
+looks_in_vain : Allowed arms_off (LookAtDoor 1 false)
 unfolding playing
-locks_while_it_waits may = false≢true may.2
-
-stands_with_the_lock : May pair (done inside_off) (Stand 1) → ⊥
-unfolding playing
-stands_with_the_lock may = may.2 refl
-
-stands_in_the_world : May pair (done both_run) (Stand 1) → ⊥
-unfolding playing
-stands_in_the_world may = false≢true (ap is_leaving may.1)
+looks_in_vain = (omega arith, refl, refl, λ finds. absurd (eqb-false 0 1 refl (ap look_code finds)))
   where
-    is_leaving : Post → Bool
-    is_leaving Waiting = true
-    is_leaving (Entering s) = true
-    is_leaving Running = false
-    is_leaving Leaving = true
-    is_leaving Armed = true
-    is_leaving Woken = true
+    look_code : Look → ℕ
+    look_code look.Rest = 0
+    look_code look.Enter = 1
+    look_code (look.Tell word) = 2
 
-calls_without_the_lock : May pair (done both_run) (BeginCall 1 cpu_off) → ⊥
+-- What breaks each clause ------------------------------------------------------------------------
+
+-- the lock has one holder, who may have it, and is inside no call; what asks for it, and what not
+of_the_lock : Refused inside_off (TakeLock 0)
+    × Refused stands_off (TakeLock 1)
+    × Refused inside_off (Stand 1)
+    × Refused both_run (BeginCall 1 cpu_off)
+    × Refused both_run (SendAgain 1 1)
+    × Refused inside_a_call (BeginCall 1 cpu_off)
+    × Refused inside_a_call (GiveLock 1)
+    × (MayReset pair (done inside_off) 1 → ⊥)
+    × Refused arms_off (SleepCore 1)
+    × (MayRise pair (done roused_off) 1 → ⊥)
+    × Refused rises_off (TurnCore 1)
+    × Refused (locked_armed ++ (ServeDoor 1 ∷ ServeDoor 1 ∷ [])) (LookAtDoor 1 false)
+    × (ArmedLacks (done arms_off) 1 → ⊥)
 unfolding playing
-calls_without_the_lock may = none-some 1 may.0.1
+of_the_lock = search arith
 
-calls_on_its_way_out : May pair (done inside_off) (BeginCall 1 cpu_off) → ⊥
+-- where a core's monitor is
+of_its_post : Refused both_run (Stand 1)
+    × Refused inside_off (BeginCall 1 cpu_off)
+    × Refused (both_run ++ (TakeLock 1 ∷ [])) (BeginEntry 1 on_start)
+    × Refused both_run (LookAtDoor 1 false)
+    × Refused both_run (ArmCore 1)
+    × Refused goes_off (SleepCore 1)
+    × Refused both_run (RouseCore 1)
+    × (MayRise pair (done inside_off) 1 → ⊥)
+    × Refused goes_off (TurnCore 1)
+    × (May pair (came_back 1 (done turns_on)) (LookAtDoor 1 false) → ⊥)
 unfolding playing
-calls_on_its_way_out may = false≢true (ap is_running may.1)
-  where
-    is_running : Post → Bool
-    is_running Waiting = true
-    is_running (Entering s) = true
-    is_running Running = true
-    is_running Leaving = false
-    is_running Armed = true
-    is_running Woken = true
+of_its_post = search arith
 
-sends_without_the_lock : May pair (done both_run) (SendAgain 1 1) → ⊥
+-- what waits, what is not due or was not ordered, and what none sent or made
+of_what_is_there : (IsDue (asked.Deliver off_message) (done inside_off).control → ⊥)
+    × Refused stands_off (KeepBack off_message)
+    × Refused both_run (ServeDoor 1)
+    × Refused both_run (CutPower 0 1)
+    × Refused arms_off (CutPower 0 1)
+    × Refused boot (KeepBack off_message)
+    × Refused boot (Carry (off_message ∷ []) [])
+    × Refused boot (Carry [] (ack_of off_message ∷ []))
 unfolding playing
-sends_without_the_lock may = none-some 1 may.1
+of_what_is_there = (
+  λ due. false≢true (sym due),
+  λ may. false≢true may.2,
+  λ may. none-some may.1.0 may.1.1,
+  λ may. let low = may.0 in omega (arith, low),
+  λ may. may.1 1 (omega arith) refl refl,
+  λ may. nothing_in may.0,
+  λ may. nothing_in (may.0 off_message (0, refl)),
+  λ may. nothing_in (may.1 (ack_of off_message) (0, refl)),
+)
 
-abbrev inside_a_call : List Step
-inside_a_call = both_run ++ (TakeLock 1 ∷ BeginCall 1 cpu_off ∷ [])
-
-ends_no_call : (g : FirmwareValue) → May pair (done both_run) (EndCall 1 g) → ⊥
+-- its wake-up waits until its word is heard
+rises_unheard : (m : Machine) → m ≡ done (inside_off ++ (ArmCore 1 ∷ []))
+    → IsDue (wake_of m 1) m.control → ⊥
 unfolding playing
-ends_no_call g may = none-some may.1.0 may.1.1.0
+rises_unheard m at due = false≢true (sym (subst (λ n. IsDue (wake_of n 1) n.control) at due))
 
--- the call leaves the firmware that it was lent
-leaves_another : May pair (done inside_a_call) (EndCall 1 anew) → ⊥
+-- a call leaves the firmware that it was lent, and ends where it began
+leaves_another : Refused inside_a_call (EndCall 1 anew)
 unfolding playing leaves.after
 leaves_another may =
     let asked = subst (λ call. IsAsked 1 call called_firmware anew)
@@ -170,77 +176,48 @@ leaves_another may =
     called_firmware : FirmwareValue
     called_firmware = (done inside_a_call).firmware
 
-takes_what_none_made : (g : FirmwareValue)
-    → May pair (done (boot ++ (TakeLock 0 ∷ []))) (TakeAck 0 (ack_of off_message) g) → ⊥
-unfolding playing
-takes_what_none_made g may = no_item (ack_of off_message) may.1
-
-calls_inside_a_call : May pair (done inside_a_call) (BeginCall 1 cpu_off) → ⊥
-unfolding playing
-calls_inside_a_call may = none-some _ (sym may.0.2)
-
-unlocks_inside_a_call : May pair (done inside_a_call) (GiveLock 1) → ⊥
-unfolding playing
-unlocks_inside_a_call may = none-some _ (sym may.2)
-
-enters_twice : May pair (done (both_run ++ (TakeLock 1 ∷ []))) (BeginEntry 1 on_start) → ⊥
-unfolding playing
-enters_twice may = false≢true (ap is_entering may.1)
-
-looks_while_held : May pair (came_back 1 (done turns_on)) (LookAtDoor 1 false) → ⊥
-unfolding playing
-looks_while_held may = false≢true (sym may.1)
-
-looks_in_the_world : May pair (done both_run) (LookAtDoor 1 false) → ⊥
-unfolding playing
-looks_in_the_world may = false≢true may.2
-
-delivers_too_early : IsDue (asked.Deliver off_message) (done inside_off).control → ⊥
-unfolding playing
-delivers_too_early due = false≢true (sym due)
-
-delivers_what_none_sent : (x : MessageValue) (t : ControlValue) (f : FirmwareValue)
-    → May pair (done boot) (DeliverMail x t f) → ⊥
-unfolding playing
-delivers_what_none_sent x t f may = no_item x may.0
-
-keeps_what_may_go : May pair (done stands_off) (KeepBack off_message) → ⊥
-unfolding playing
-keeps_what_may_go may = false≢true may.2
-
-keeps_what_none_sent : May pair (done boot) (KeepBack off_message) → ⊥
-unfolding playing
-keeps_what_none_sent may = no_item off_message may.0
-
-delivers_what_none_kept : (t : ControlValue) (f : FirmwareValue)
-    → May pair (done boot) (DeliverKept 1 off_message t f) → ⊥
-unfolding playing
-delivers_what_none_kept t f may = none-some off_message may.1
-
-serves_what_is_not_due : May pair (done both_run) (ServeDoor 1) → ⊥
-unfolding playing
-serves_what_is_not_due may = none-some may.1.0 may.1.1
-
-invents : May pair (done boot) (Carry (off_message ∷ []) []) → ⊥
-unfolding playing
-invents may = no_item off_message (may.0 off_message (0, refl))
-
-invents_an_answer : May pair (done boot) (Carry [] (ack_of off_message ∷ [])) → ⊥
-unfolding playing
-invents_an_answer may = no_item (ack_of off_message) (may.1 (ack_of off_message) (0, refl))
-
-loses_all : May pair (done inside_off) (Carry [] [])
-loses_all = (λ x at. absurd (no_item x at), λ a at. absurd (no_item a at))
-
-resets_with_the_lock : MayReset pair (done inside_off) 1 → ⊥
-unfolding playing
-resets_with_the_lock may = may.1 refl
-
--- power that was not ordered to go
-cuts_too_early : May pair (done both_run) (CutPower 0 1) → ⊥
-unfolding playing
-cuts_too_early may = let low : 0 < 0 = may.0 in absurd (omega (arith, low))
-
 kept_firmware : IsMadeAnew pair booted → ⊥
 unfolding playing
 kept_firmware is = eqb-false 1 0 refl (ap (λ (v : Values). v.life) is.values)
+
+-- Whatever a method leaves -----------------------------------------------------------------------
+
+ends_no_call : (g : FirmwareValue) → Refused both_run (EndCall 1 g)
+unfolding playing
+ends_no_call g may = none-some may.1.0 may.1.1.0
+
+takes_what_none_made : (g : FirmwareValue)
+    → Refused (boot ++ (TakeLock 0 ∷ [])) (TakeAck 0 (ack_of off_message) g)
+unfolding playing
+takes_what_none_made g may = nothing_in may.1
+
+delivers_what_none_sent : (x : MessageValue) (t : ControlValue) (f : FirmwareValue)
+    → Refused boot (DeliverMail x t f)
+unfolding playing
+delivers_what_none_sent x t f may = nothing_in may.0
+
+delivers_what_none_kept : (t : ControlValue) (f : FirmwareValue)
+    → Refused boot (DeliverKept 1 off_message t f)
+unfolding playing
+delivers_what_none_kept t f may = none-some off_message may.1
+
+-- who is armed with the lock in hand is started by none but itself, nor woken, though the system is
+-- off
+no_start_with_the_lock : (t : ControlValue) (f : FirmwareValue)
+    → Refused arms_off (DeliverMail on_message t f)
+unfolding playing
+no_start_with_the_lock t f may = may.4 refl refl refl
+
+no_kept_start_with_the_lock : (t : ControlValue) (f : FirmwareValue)
+    → Refused (arms_off ++ (KeepBack on_message ∷ [])) (DeliverKept 1 on_message t f)
+unfolding playing
+no_kept_start_with_the_lock t f may = may.5 refl refl refl
+
+abbrev off_now : Machine
+off_now = let m = done arms_off in record m {
+  control = record m.control { controller = record m.control.controller { life = None } };
+}
+
+no_wake_up_with_the_lock : (t : ControlValue) → May pair off_now (WakeUp 1 t) → ⊥
+unfolding playing
+no_wake_up_with_the_lock t may = may.2 refl refl
