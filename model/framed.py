@@ -4,12 +4,11 @@
 stored records, and spells what the model sends in the same runs; `random` reads frames that were drawn, and
 the same with a byte changed.
 """
-import glob
-import lzma
 import os
 import random as randoms
 import re
 import sys
+import tarfile
 from collections import Counter
 
 import frame as frames
@@ -25,8 +24,9 @@ from views.record import Record as Run
 
 # how often each fault has to come
 LEAST = 20
-# records whose runs the model goes through, besides reading their frames
-RUNS = ("tests/hosts/records/short.record", "hosts/el3/runs/probe.record.xz", "hosts/el3/runs/os-initiated.record.xz")
+# a record, an archive of others, and the names of those whose runs the model goes through, besides reading their frames
+SHORT, KEPT = f"{TOP}/tests/hosts/records/short.record", f"{TOP}/hosts/el3/runs.tar.xz"
+RUNS = ("short.record", "probe.record", "os-initiated.record")
 BOARDS = ("2 exec 0x0-0x4 boot 0x0 starts 9 lives 9", "(2 2) exec 0x0-0x4 boot 0x0 starts 9 lives 9",
           "((1 2) (3)) exec 0x0-0x4 boot 0x0 starts 9 lives 9")
 
@@ -54,9 +54,13 @@ def examples():
 
 # ---- the records
 
-def lines_of(path):
-    with (lzma.open if path.endswith(".xz") else open)(path, "rb") as file:
-        return file.read().decode().splitlines()
+def stored():
+    """The lines of each record by its name."""
+    with open(SHORT, "rb") as file:
+        found = {os.path.basename(SHORT): file.read()}
+    with tarfile.open(KEPT) as archive:
+        found |= {it.name: archive.extractfile(it).read() for it in archive if it.name.endswith(".record")}
+    return {name: text.decode().splitlines() for name, text in found.items()}
 
 
 def written(digits):
@@ -83,17 +87,18 @@ def sent_in(lines):
 def records():
     """Whether the frames of the stored records are read, and those of their runs spelled, as they stand."""
     wrong, many = [], 0
-    for path in [f"{TOP}/{RUNS[0]}", *sorted(glob.glob(f"{TOP}/hosts/el3/runs/*.record.xz"))]:
-        lines = lines_of(path)
-        wrong += [f"{path}: {it}" for it in faults_of(lines)]
-        if os.path.relpath(path, TOP) in RUNS:
+    those = stored()
+    for name, lines in those.items():
+        wrong += [f"{name}: {it}" for it in faults_of(lines)]
+        if name in RUNS:
             world = World(Board(lines[0].removeprefix("board ")))
             for event in Run(lines).events:
                 answer(world, event.text)
             spelled = [frames.spelled(it) for it in world.sent], [frames.spelled(it) for it in world.acks]
             many += len(spelled[0]) + len(spelled[1])
             if spelled != sent_in(lines):
-                wrong.append(f"{path}: the frames of the run are not those of the record")
+                wrong.append(f"{name}: the frames of the run are not those of the record")
+    wrong += [f"there is no record {name}" for name in RUNS if name not in those]
     print("\n".join(wrong) or f"each frame of the records is read; {many} frames of runs are spelled as recorded")
     return 1 if wrong or not many else 0
 
