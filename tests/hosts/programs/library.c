@@ -715,18 +715,23 @@ static void beside_calls(void) {
     enter(0, 1, 1, PSCI_CAUSE_BOOT);
     for (uint16_t other = 1; other < 4; other++) {
         smc(0, 0xc4000003, other == 1 ? 1 : 0x100 + other - 2, 0x40001000, 7);
+        want("on its way it does not run", false, psci_running(&place.it, other));
         want("entered", PSCI_ENTER, enter(other, 1, 1, PSCI_CAUSE_ON));
     }
     want("core 1 goes off", PSCI_STOP, smc(1, 0x84000002, 0, 0, 0));
-    frame.it = answer.it.message;
+    struct psci_frame down = answer.it.message;
     want("SYSTEM_OFF", PSCI_STOP, smc(0, 0x84000008, 0, 0, 0));
     want("its caller stopped", false, psci_running(&place.it, 0));
+    core = 4, make(do_outstanding);
+    want("the system's message", 3, frame.it.some ? frame.it.bytes[2] : 0);
+    core = 5, make(do_outstanding);
+    want("and none beyond it", false, frame.it.some);
     want("core 2 runs", true, psci_running(&place.it, 2));
     want("until it calls", PSCI_STOP, smc(2, 0x84000000, 0, 0, 0));
     want("and stopped then", false, psci_running(&place.it, 2));
     want("core 3 enters", PSCI_STOP, enter(3, 1, 2, PSCI_CAUSE_RESET));
     want("and stops at once", false, psci_running(&place.it, 3));
-    answer.it.message = frame.it;
+    answer.it.message = down;
     want("what was sent before", PSCI_USED, take_changed(12, 1, PSCI_FRAME_LEN));
     want("powers down", PSCI_HW_OFF, psci_hw(&place.it, 0, 1));
     want("and is off", PSCI_STATUS_OFF, psci_status(&place.it, 0, 1));
