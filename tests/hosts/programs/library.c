@@ -452,7 +452,7 @@ static void faulty_machines(void) {
     enter(0, 1, 1, PSCI_CAUSE_BOOT);
     want("CPU_OFF", (uint32_t)-1, smc(0, 0x84000002, 0, 0, 0) ? 0 : (uint32_t)answer.it.code);
     want("PSCI_SET_SUSPEND_MODE", (uint32_t)-1, smc(0, 0x8400000a, 0x8400000f, 0, 0) ? 0 : (uint32_t)answer.it.code);
-    given = plain_machine, given.functions -= PSCI_HAS_SYSTEM_SUSPEND, given.rows[3].states[3] = 1;
+    given = plain_machine, given.functions -= PSCI_HAS_SYSTEM_SUSPEND, given.rows[3].states[2] = given.rows[3].states[3] = 1;
     want("a state above the levels", PSCI_MACHINE_BAD_STATES, open_machine(&tall, &given, 0x10101));
     given = plain_machine, given.many_mpidrs = 6, given.mpidrs[4] = 0x10200, given.mpidrs[5] = 0x10201;
     want("a cluster that is on no path", PSCI_OPENED, open_machine(&three, &given, 0x10101));

@@ -434,12 +434,14 @@ static void monitors(void) {
     hold(orders.next == PSCI_NO_LIFE && memcmp(&side, &before, sizeof side) == 0, "a refusal", orders.next);
     psci_enter(&own, 0, 1, 1, PSCI_CAUSE_BOOT, &answer);
     psci_port_enter(&own, &side, &orders);
-    hold(orders.next == PSCI_PORT_OUT_OF_ORDER && memcmp(&side, &before, sizeof side) == 0, "one that runs enters", orders.next);
+    hold(orders.next == PSCI_PORT_OUT_OF_ORDER && memcmp(&side, &before, sizeof side) == 0, "one that runs enters",
+         orders.next);
     psci_port_call(&own, &side, 0x84000000, 0, 0, 0, &orders);
     hold(orders.next == PSCI_PORT_LEAVES && side.start.number == 0 && side.start.life == 0, "a start of one that runs",
          side.start.number);
     psci_port_call(&own, &side, 0x84000008, 0, 0, 0, &orders);
-    hold(orders.next == PSCI_PORT_STANDS && orders.stop == PSCI_PORT_ENDING && side.stop == PSCI_PORT_ENDING, "off", orders.stop);
+    hold(orders.next == PSCI_PORT_STANDS && orders.stop == PSCI_PORT_ENDING && side.stop == PSCI_PORT_ENDING, "off",
+         orders.stop);
     psci_close(&own);
 }
 
