@@ -54,38 +54,13 @@ enters_not y t none e = none-some t (sym none ∙ ap entering_by e)
 -- As a life begins -------------------------------------------------------------------------------
 
 pub blank_row : (l : Option Start) → l ≡ None → IsRow 0 l (blank Standing)
-blank_row l is = record {
-  stood = omega arith;
-  used = omega arith;
-  opened = omega arith;
-  shows = λ e. sym is;
-  last = λ free differs. absurd (differs refl);
-  still = λ e. refl;
-  stands = λ e. refl;
-  inside = λ e. absurd (false≢true e);
-  taken = λ t e. absurd (enters_not Standing t refl e);
-  ahead = λ e some. absurd (false≢true e);
-  closed = λ e. absurd (false≢true e);
-}
+blank_row l is = search arith
 
 boot_row : (l : Option Start) → IsRow 1 l (blank AtDoor)
-boot_row l = record {
-  stood = omega arith;
-  used = omega arith;
-  opened = omega arith;
-  shows = λ e. absurd (omega (arith, e));
-  last = λ free differs. absurd (differs refl);
-  still = λ e. absurd (false≢true e);
-  stands = λ e. absurd (omega (arith, e));
-  inside = λ e. absurd (false≢true e);
-  taken = λ t e. absurd (enters_not AtDoor t refl e);
-  ahead = λ e some. omega arith;
-  closed = λ e. absurd (false≢true e);
-}
+boot_row l = search arith
 
 shows_none : (life : Option ℕ) (cause : Cause) → start_shown life 0 cause ≡ None
-shows_none None cause = refl
-shows_none (Some l) cause = refl
+shows_none life cause = grind arith
 
 pub first_is : (life : Option ℕ) (c : ℕ)
     → IsRow (first_starts c) (start_shown life (first_starts c) causes.Boot) (first_row c)
