@@ -3,12 +3,12 @@
 
 # each stored run that is compressed, unpacked first
 stored_runs() {
-    local file name
+    local file name stored=$work
     for file in examples/linux/*.psci.xz; do
         has_xz "$file" || continue
-        name=$work/$(basename "${file%.psci.xz}")
-        xz -dc "$file" > "$name.psci"
-        xz -dc "${file%.psci.xz}.out.xz" > "$name.out"
+        name=$(basename "${file%.psci.xz}")
+        xz -dc "$file" > "$work/$name.psci"
+        xz -dc "${file%.psci.xz}.out.xz" > "$work/$name.out"
         script "$name"
     done
 }
