@@ -11,6 +11,9 @@ stored_runs() {
         xz -dc "${file%.psci.xz}.out.xz" > "$work/$name.out"
         script "$name"
     done
+    has_python hosts/records || return
+    hosts/records take examples/linux/recorded.tar.xz "$work/recorded"
+    for file in "$work"/recorded/*.psci; do script "recorded/$(basename "${file%.psci}")"; done
 }
 
 # bare: answer lines without their messages and numbers, as a trace can be compared with
