@@ -13,6 +13,7 @@ import shutil
 import struct
 import subprocess
 import sys
+import tempfile
 import time
 from collections import namedtuple
 from concurrent.futures import ProcessPoolExecutor
@@ -29,6 +30,22 @@ RANDOM, TOGETHER = 2000, 100
 CACHE = f"{os.environ.get('XDG_CACHE_HOME') or os.path.expanduser('~/.cache')}/gumdarts/mutants"
 # threads of the program, each a run that is audited
 THREADS = [("threads", "--seed", str(seed), "--count", "200") for seed in range(1, 6)]
+# tests of the built program as a whole, which are functions of tests/program/*.sh
+WHOLE = ("texts", "command_lines", "streams", "slow_pipe", "by_hand", "storms", "kept_storms", "core_threads",
+         "thread_counts", "kept_threads", "no_threads", "storm_counts", "little_memory", "long_scripts")
+ALONE = """
+top=$1 program=$2 work=$3 patience=60 failed=0
+cd "$top" || exit 2
+say() { :; }
+pass() { :; }
+fail() { failed=1; }
+skip() { :; }
+has_full() { [ -c /dev/full ]; }
+same() { if [ -f "$1" ]; then cmp -s "$1" "$2"; else [ ! -s "$2" ]; fi; }
+for part in program texts long-scripts; do . "tests/program/$part.sh"; done
+"$4"
+exit "$failed"
+"""
 # a program over the C library: its sources beside the heap's, and its words: RECORD is a file that it writes, FOLDER a folder
 # of its own
 Program = namedtuple("Program", "name sources words")
@@ -181,7 +198,7 @@ def of_program(top, binary, jobs):
     for words in THREADS:
         killers.append(Killer(" ".join(words), lambda number, words=words:
                               not is_audited(ran([binary.at_work(number), *words]))))
-    killers += shown(top, binary)
+    killers += [*shown(top, binary), *whole(top, binary)]
     return killers + [script("random", it, binary) for it in random_scripts(top, jobs)]
 
 
@@ -195,6 +212,18 @@ def kept(binary, number):
             text = file.read()
         os.remove(path)
     return said, text
+
+
+def whole(top, binary):
+    """The tests of the built program as a whole. What fails once is tried again, since some look at the time; one that
+    fails with no wrong body at work says nothing."""
+    def fails(name, number):
+        with tempfile.TemporaryDirectory(prefix="psci-mutants-") as work:
+            done = ran(["bash", "-c", ALONE, "bash", top, binary.at_work(number), work, name], patience=15 * PATIENCE)
+        return done is None or done[2] != 0
+
+    return [Killer(f"whole {name}", lambda number, name=name: fails(name, number) and fails(name, number) and
+                   not fails(name, schema.NONE)) for name in WHOLE]
 
 
 def is_audited(said):
