@@ -3,14 +3,14 @@
 
 blank_lines() { awk -v count="$1" 'BEGIN { for (i = 0; i < count; i++) print "" }'; }
 
-# a script too long to keep: a million lines end well, and one more is a fault
+# a script too long to keep: a million lines end well, and one more is a fault, whatever stands in it
 long_scripts() {
     : > "$work/lines"
     { echo "$board"; blank_lines 999999; } > "$work/script"
     run replay < "$work/script"
     expect "a million lines" 0
     answers "a million lines"
-    echo >> "$work/script"
+    printf 'x%.0s' {1..257} >> "$work/script"
     run replay < "$work/script"
     expect "a million lines and one" 3 "line 1000001: script fault 4"
     answers "a million lines and one"

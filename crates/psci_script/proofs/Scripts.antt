@@ -1,12 +1,10 @@
--- Worked examples of scripts are stated so: lines, and what they are answered.
-use Rattle.std.proofs.Common.{◌≡◌, ℕ, List, [], ◌∷◌, ◌++◌, Result}
-use Rattle.std.specs.Prelude.{codes, Ok}
+-- What worked examples of scripts are stated by.
+use Rattle.std.proofs.Common.{ℕ, List, [], ◌∷◌, ◌++◌}
+use Rattle.std.specs.Prelude.{codes}
 use Rattle.std.specs.Fmt.{digits}
 use Rattle.psci_board.specs.ReadWords.{literal_at, number_at, hex_at, spaced_at}
 use Rattle.psci_board.proofs.Readings.{judging}
 use Rattle.psci_world_spec.proofs.Scripts.{computing}
-use Rattle.psci_script.specs.declared.fault.Replayed.{Replayed}
-use Rattle.psci_script.specs.declared.fault.ReplayFault.{ReplayFault}
 use Rattle.psci_script.specs.Line.{line_of, event_at, call_at, alone_at, register_at}
 use Rattle.psci_script.specs.Line.{optional_register_at}
 use Rattle.psci_script.specs.Lines.{lines}
@@ -31,11 +29,3 @@ text (l ∷ ls) = l ++ 10 ∷ text ls
 -- two clusters of two cores
 abbrev pub board : List ℕ
 board = codes "board (2 2) exec 0x40000000-0x40100000 boot 0x40000000 starts 1000 lives 3"
-
--- the bytes of a script are answered with these lines, and end so
-abbrev pub IsAnswered : List ℕ → List (List ℕ) → Result Replayed ReplayFault → Type 0
-IsAnswered bytes answers end = transcript bytes ≡ record { text = text answers; end = end }
-
--- so many lines, of which so many are events
-abbrev pub replayed : ℕ → ℕ → Result Replayed ReplayFault
-replayed lines events = Ok (record { lines = lines; events = events })
