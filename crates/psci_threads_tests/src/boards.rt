@@ -3,7 +3,7 @@
 use crate::lossy::{Travel, travelled};
 use crate::meeting::Meeting;
 use crate::serving::serve;
-use psci_bench::{BenchFault, Gate, OpenGate, Threaded, calls_of, threads};
+use psci_bench::{BenchFault, Gate, OpenGate, Sighting, Threaded, calls_of, threads};
 use psci_board::Board;
 use psci_world::World;
 use std::alloc::Global;
@@ -59,9 +59,19 @@ fn is_done(run: &Threaded, cores: u16, count: u64) -> bool {
             && it.polls >= count.saturating_sub(3))
 }
 
-/// Whether each core's thread has seen something else than just before at least so often.
+/// Whether each core's thread has seen something else than just before at least so often, and each
+/// serial of a core with one status.
 fn has_seen(run: &Threaded, floor: u64) -> bool {
-    run.polls.iter().all(|it| it.seen.len() as u64 >= floor)
+    run.polls.iter().all(|it| it.seen.len() as u64 >= floor && are_serials(it.seen.as_slice()))
+}
+
+/// Whether no serial of a core was seen with two statuses.
+fn are_serials(seen: &[Sighting]) -> bool {
+    seen.iter().all(|one| {
+        seen.iter().all(|other| one.core != other.core
+            || one.serial != other.serial
+            || one.status == other.status)
+    })
 }
 
 /// Whether runs of so many seeds were each audited whole, each core made so many calls and saw

@@ -45,6 +45,9 @@ fn gathered_firmware<N: Named>(
     let Ok(books) = shared.gather(Vec::new(alloc)) else {
         unreachable!();
     };
+    if books.book.room() != 2 {
+        return None;
+    }
     Some(books.book.len())
 }
 

@@ -40,7 +40,7 @@ mod tests {
     use crate::boards::{BOARD, LARGE, ONE, TALL, is_audited, met, served, travels};
     use crate::controller::{told_of_starts, told_of_threads};
     use crate::counted::is_counted;
-    use crate::forged::{is_illegal_at, is_ticket_twice, judged};
+    use crate::forged::{is_illegal_at, is_ticket_twice, judged, judged_by_message};
     use crate::fresh::{entries_of_controller, entries_of_firmware};
     use crate::lossy::Travel;
     use crate::named::{Story, told};
@@ -56,11 +56,14 @@ mod tests {
         assert_eq!(rt; told(&rt, rt.alloc(), Story::FullBooks), Some(true));
         assert_eq!(rt; told(&rt, rt.alloc(), Story::TooMany), Some(true));
         assert_eq!(rt; told(&rt, rt.alloc(), Story::Statuses), Some(true));
+        assert_eq!(rt; told(&rt, rt.alloc(), Story::Serials), Some(true));
+        assert_eq!(rt; told(&rt, rt.alloc(), Story::GoesOff), Some(true));
         assert_eq!(rt; told(&rt, rt.alloc(), Story::TwoThreads(49)), Some(true));
         assert_eq!(rt; told(&rt, rt.alloc(), Story::Polled), Some(true));
         assert_eq!(rt; told(&rt, rt.alloc(), Story::PolledWhileHeld), Some(true));
         assert_eq!(rt; entries_of_controller(rt.alloc()), Some(0));
-        assert_eq!(rt; told_of_starts(&rt, rt.alloc()), Some(true));
+        assert_eq!(rt; told_of_starts(&rt, rt.alloc(), true), Some(true));
+        assert_eq!(rt; told_of_starts(&rt, rt.alloc(), false), Some(true));
         assert_eq!(rt; told_of_threads(&rt, rt.alloc()), Some(true));
         Ok(())
     }
@@ -105,14 +108,23 @@ mod tests {
     fn forged_traces_are_refused(rt: HostRuntime) -> Result<(), Fail> {
         assert_eq!(rt; is_ticket_twice(&rt, rt.alloc(), BOARD), Ok(true));
         assert_eq!(rt; is_illegal_at(&rt, rt.alloc(), BOARD), Ok(true));
-        assert_eq!(rt; judged(rt.alloc(), BOARD, &[]), Ok(Ok(0)));
+        assert_eq!(rt; judged(rt.alloc(), BOARD, &[], &[]), Ok(Ok(0)));
         assert_eq!(rt;
-            judged(rt.alloc(), BOARD, &[1]),
+            judged(rt.alloc(), BOARD, &[1], &[]),
             Ok(Err(AuditFault::Illegal(0)))
         );
         assert_eq!(rt;
-            judged(rt.alloc(), BOARD, &[2, 1]),
+            judged(rt.alloc(), BOARD, &[2, 1], &[]),
             Ok(Err(AuditFault::Ticket))
+        );
+        assert_eq!(rt;
+            judged(rt.alloc(), BOARD, &[1, 3], &[2, 3]),
+            Ok(Err(AuditFault::Ticket))
+        );
+        assert_eq!(rt; judged_by_message(rt.alloc(), BOARD, false), Ok(Ok(2)));
+        assert_eq!(rt;
+            judged_by_message(rt.alloc(), BOARD, true),
+            Ok(Err(AuditFault::Illegal(1)))
         );
         Ok(())
     }

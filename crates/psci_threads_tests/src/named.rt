@@ -6,7 +6,7 @@ ghost use Rattle.psci_fw_spec.specs.declared.status.Status.TheVariants.{Off};
 ghost use Rattle.psci_status.specs.Seats.{table, table_of_writer, written};
 
 use crate::held::poll_while_held;
-use crate::passes::{full_books, statuses_are_read, three_calls, too_many};
+use crate::passes::{full_books, goes_off, serials_stay, statuses_are_read, three_calls, too_many};
 use crate::threads::{poll_in_two_threads, two_threads};
 use psci_board::Board;
 use psci_shared::{Named, SharedFirmware, StatusWords, Tickets, Writer};
@@ -33,6 +33,10 @@ pub(crate) enum Story {
     TooMany,
     /// The statuses of cores are read without the lock.
     Statuses,
+    /// A call that changes no status leaves the serials.
+    Serials,
+    /// A core goes off.
+    GoesOff,
     /// Two threads make so many calls each.
     TwoThreads(u32),
     /// One thread calls while another one polls.
@@ -94,6 +98,8 @@ fn tell<N: Named + Send + Sync, R: Threads + Wait + Sync>(
         Story::FullBooks => full_books(rt, alloc, shared),
         Story::TooMany => too_many(rt, alloc, shared),
         Story::Statuses => statuses_are_read(rt, shared),
+        Story::Serials => serials_stay(rt, shared),
+        Story::GoesOff => goes_off(rt, shared),
         Story::TwoThreads(calls) => two_threads(rt, alloc, shared, calls),
         Story::Polled => poll_in_two_threads(rt, alloc, shared),
         Story::PolledWhileHeld => poll_while_held(rt, shared),

@@ -3,6 +3,7 @@
 ghost use Rattle.std.specs.Prelude.{◌≡◌, IfSome};
 
 use psci_fw::{Act, Cause, Code, FwFault, Regs, Start};
+use psci_messages::{Ack, Kind, Taken};
 use psci_shared::{Books, CallFault, Core, GatherCause, Named, Pass, PassFault, SharedFirmware};
 use std::alloc::Global;
 use std::sync::Wait;
@@ -36,6 +37,19 @@ pub(crate) const CPU_ON: Regs = Regs {
     x3: 7,
 };
 
+/// Its first start.
+const ASKED_ON: Start = Start {
+    life: 1,
+    number: 1,
+    cause: Cause::On,
+};
+
+/// CPU_OFF.
+const CPU_OFF: Regs = Regs {
+    x0: 0x8400_0002,
+    ..VERSION
+};
+
 /// Core 0 enters at the board's boot address and calls, core 1 may not call; both are gathered, or
 /// core 0's pass alone.
 pub(crate) fn three_calls<N: Named, R: Wait>(
@@ -56,7 +70,10 @@ pub(crate) fn three_calls<N: Named, R: Wait>(
     }
     match shared.gather(passes) {
         Ok(books) => Some(right && both && has_places(&books)),
-        Err(fault) => Some(right && !both && fault.cause == GatherCause::Missing),
+        Err(fault) => {
+            let is_told = fault.cause == GatherCause::Missing && fault.made == 2;
+            Some(right && !both && is_told)
+        }
     }
 }
 
@@ -169,4 +186,63 @@ pub(crate) fn statuses_are_read<N: Named, R: Wait>(
     let nobody = shared.affinity_core(&mut other, 0x200);
     let statuses = [before, own, off, pending, seen, nobody];
     Some(asked == Act::Return(Code(0)) && statuses == [1, 0, 1, 2, 2, -2].map(Code))
+}
+
+/// Entering is the third status of the boot core. An acknowledgement that nothing waits for leaves
+/// its status and serial, before it and after it.
+pub(crate) fn serials_stay<N: Named, R: Wait>(
+    rt: &R,
+    mut shared: SharedFirmware<'_, N>,
+) -> Option<bool> {
+    let mut pass = shared.pass(Core { number: 0 }).ok()?;
+    let early = shared.take(rt, &mut pass, unasked()).ok()?;
+    let first = shared.poll(&mut pass, 0)?.serial;
+    shared.enter(rt, &mut pass, FIRST).ok()?;
+    let entered = shared.poll(&mut pass, 0)?.serial;
+    let late = shared.take(rt, &mut pass, unasked()).ok()?;
+    let after = shared.poll(&mut pass, 0)?.serial;
+    let others = shared.poll(&mut pass, 1)?.serial;
+    let serials = [first, entered, after, others];
+    Some(early == Taken::Old && late == Taken::Old && serials == [0, 2, 2, 0])
+}
+
+/// The last core is on until the power controller has taken it and its cluster down.
+pub(crate) fn goes_off<N: Named, R: Wait>(
+    rt: &R,
+    mut shared: SharedFirmware<'_, N>,
+) -> Option<bool> {
+    let mut first = shared.pass(Core { number: 0 }).ok()?;
+    let mut last = shared.pass(Core { number: 3 }).ok()?;
+    shared.enter(rt, &mut first, FIRST).ok()?;
+    shared.smc(rt, &mut first, CPU_ON).ok()?;
+    shared.enter(rt, &mut last, ASKED_ON).ok()?;
+    shared.smc(rt, &mut last, CPU_OFF).ok()?;
+    let before = shared.affinity_core(&mut first, 0x101);
+    let taken = shared.take(rt, &mut first, gone()).ok()?;
+    let after = shared.affinity_core(&mut first, 0x101);
+    Some(taken == Taken::Used && before == Code(0) && after == Code(1))
+}
+
+/// An acknowledgement of a message that the boot core has not sent.
+fn unasked() -> Ack {
+    Ack {
+        kind: Kind::Start,
+        core: Core { number: 0 },
+        life: 1,
+        number: 1,
+        applied: 1,
+        stale: false,
+    }
+}
+
+/// The acknowledgement of the last core's Down, both of whose parts were applied.
+fn gone() -> Ack {
+    Ack {
+        kind: Kind::Down,
+        core: Core { number: 3 },
+        life: 1,
+        number: 1,
+        applied: 2,
+        stale: false,
+    }
 }
