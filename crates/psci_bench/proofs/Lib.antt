@@ -1,5 +1,4 @@
 mod CallRows
-mod CountRows
 pub mod Crossing
 pub mod Kept
 mod RunRows

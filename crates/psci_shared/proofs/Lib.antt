@@ -2,7 +2,6 @@ pub mod AgreeRows
 mod AnsweredRows
 pub mod BookRows
 pub mod CallRows
-pub mod ChangeRows
 pub mod Crossing
 mod CtlAnsweredRows
 pub mod CtlCallRows
@@ -18,7 +17,6 @@ pub mod Telling
 mod ToldRows
 pub mod TwoCores
 pub mod Unnamed
-mod ViewRows
 pub mod Walking
 pub mod WritingRows
 pub mod Written

@@ -5,7 +5,6 @@ use Rattle.std.proofs.Common.{◌≡◌, inl, inr, ℕ, ◌<◌, ◌≤◌, List
 use Rattle.std.proofs.Common.{negsuc, Bool, true, false, refl, ap, arith, Some, None}
 use Rattle.std.specs.Prelude.{nat_lt, if◌then◌else◌}
 use Rattle.psci_fw.specs.psci_abi.declared.code.Code.{Code}
-use Rattle.psci_fw.specs.psci_board.Board.{core_of}
 use Rattle.psci_fw.specs.psci_fw_spec.declared.call.FwCall.TheVariants.{Enter, Smc}
 use Rattle.psci_fw.specs.psci_fw_spec.declared.outcome.Act.TheVariants as acts
 use Rattle.psci_fw.specs.psci_fw_spec.declared.reply.FwReply.TheVariants.{Out}
@@ -19,12 +18,9 @@ use Rattle.psci_status.specs.Lists.{Item, gain, row}
 use Rattle.psci_shared.specs.Entries.{FwEntry}
 use Rattle.psci_shared.specs.Books.{entry, history_of}
 use Rattle.psci_shared.specs.Passes.{IsAffinity, IsRead, PassView}
-use Rattle.psci_status.specs.Writing.{one_more}
-use Rattle.psci_shared.specs.Writing.{AllLast, IsWritten, Stand, written_after}
+use Rattle.psci_shared.specs.Writing.{AllLast, IsWritten, Stand}
 use Rattle.psci_shared.proofs.TwoCores.{board, of_two}
 use Rattle.std.proofs.lemmas.Bool.{eqb-false}
-use Rattle.psci_board.proofs.Tables.{◌⇒◌, Gives}
-use Rattle.psci_fw.specs.psci_fw_spec.declared.status.Status.{Status}
 
 -- the Start of a core that was never on
 abbrev start_of : ℕ → MessageValue
@@ -64,19 +60,6 @@ first_written : IsWritten board ((Off ∷ []) ∷ (Off ∷ []) ∷ []) []
 unfolding statuses history_of
 first_written = of_two _ refl refl
 
--- whether a life begins, the core, its status, and what was written
-abbrev more : Bool × ℕ × Status × List Status → List Status
-more (begins, core, status, written) = one_more begins core status written
-
--- one status more: another one, the same, and one that opens a life; of the boot core, and of
--- another
-one_status_more : Gives more
-    ((false, 0, Pending, Off ∷ []) ⇒ (Pending ∷ Off ∷ [])
-    ∷ (false, 1, Off, Off ∷ []) ⇒ (Off ∷ [])
-    ∷ (true, 0, On, Off ∷ []) ⇒ (On ∷ Pending ∷ Off ∷ [])
-    ∷ (true, 1, Pending, On ∷ []) ⇒ (Pending ∷ Off ∷ On ∷ []) ∷ [])
-one_status_more = refl
-
 -- the same, and core 0 asks core 1 on
 abbrev pub asked_on : List FwEntry
 asked_on =
@@ -84,20 +67,6 @@ asked_on =
     (Out (record { act = acts.Enter 0 0; message = None }))
     ∷ entry 2 (record { number = 0 }) (Smc (record { x0 = 0x84000003; x1 = 1; x2 = 0; x3 = 0 }))
     (Out (record { act = acts.Return (record { 0 = pos 0 }); message = Some (start_of 1) })) ∷ []
-
--- the entries, the life before, the core, and what was written
-abbrev after : List FwEntry × ℕ × ℕ × List Status → List Status
-after (entries, before, core, written) = written_after board entries before core written
-
--- by the life before: none, or the same; and where there is no life yet
-after_entries : Gives after
-    ((entries, 0, 0, Off ∷ []) ⇒ (On ∷ Pending ∷ Off ∷ [])
-    ∷ (entries, 1, 0, Off ∷ []) ⇒ (On ∷ Off ∷ [])
-    ∷ ([], 0, 0, Off ∷ []) ⇒ (Off ∷ [])
-    ∷ (asked_on, 1, 1, Off ∷ []) ⇒ (Pending ∷ Off ∷ [])
-    ∷ (asked_on, 1, 0, On ∷ Pending ∷ Off ∷ []) ⇒ (On ∷ Pending ∷ Off ∷ []) ∷ [])
-unfolding history_of core_of
-after_entries = refl
 
 -- What a pass has seen ----------------------------------------------------------------------------
 

@@ -5,9 +5,7 @@ use Rattle.std.proofs.Common.{None, Some}
 use Rattle.std.specs.Prelude.{codes, slice_index_or}
 use Rattle.std.specs.Fmt.{decimal, digits}
 use Rattle.psci_script.specs.psci_board.Board.{BoardValue}
-use Rattle.psci_world.specs.psci_world_spec.declared.event.Event.{Event}
-use Rattle.psci_world.specs.psci_world_spec.declared.event.Event.TheVariants.{Call, Enter, Wake}
-use Rattle.psci_world.specs.psci_world_spec.declared.event.Event.TheVariants.{Reset, Deliver, Take}
+use Rattle.psci_world.specs.psci_world_spec.declared.event.Event.TheVariants.{Take, Wake}
 use Rattle.psci_world.specs.psci_world_spec.declared.said.Record.{Record}
 use Rattle.psci_world.specs.psci_world_spec.declared.said.Said.TheVariants.{Absent, Ignored}
 use Rattle.psci_world.specs.psci_world_spec.declared.said.Said.TheVariants.{Kick}
@@ -17,8 +15,7 @@ use Rattle.psci_script.specs.declared.grammar.Line.TheVariants.{Event as Says}
 use Rattle.psci_script.proofs.Scripts.{reading}
 use Rattle.psci_show.specs.declared.form.Form.{Form}
 use Rattle.psci_show.specs.declared.form.Form.TheVariants.{Lines, Json}
-use Rattle.psci_show.specs.Shown.{HasRows, IsEventRow, IsHeading, IsShown, event_object, front}
-use Rattle.psci_show.specs.Shown.{number_text}
+use Rattle.psci_show.specs.Shown.{HasRows, IsEventRow, IsHeading, IsShown, front, number_text}
 use Rattle.psci_script.proofs.Tables.{◌⇒◌, Gives}
 use Rattle.std.proofs.lemmas.Bool.{eqb-false}
 
@@ -36,9 +33,6 @@ wake = record { event = Wake 3; said = Ignored }
 abbrev kicked : Record
 kicked = record { event = Wake 3; said = Kick (record { life = 1; number = 2; cause = ByWake }) }
 
-abbrev call : Event
-call = Call 2 (record { x0 = 0xc4000003; x1 = 1; x2 = 0x40001000; x3 = 0 })
-
 abbrev take : Record
 take = record { event = Take 7; said = Absent }
 
@@ -54,30 +48,11 @@ number_texts : Gives number_text
 unfolding digits
 number_texts = refl
 
-event_objects : Gives event_object
-    (call ⇒ (codes "{\"kind\": \"call\", \"number\": 2, \"registers\": [\"0xc4000003\", \"0x1\", "
-    ++ codes "\"0x40001000\", \"0x0\"]}")
-    ∷ Enter 1 ⇒ codes "{\"kind\": \"enter\", \"number\": 1}"
-    ∷ Wake 3 ⇒ codes "{\"kind\": \"wake\", \"number\": 3}"
-    ∷ Reset 0 ⇒ codes "{\"kind\": \"reset\", \"number\": 0}"
-    ∷ Deliver 12 ⇒ codes "{\"kind\": \"deliver\", \"number\": 12}"
-    ∷ Take 7 ⇒ codes "{\"kind\": \"take\", \"number\": 7}" ∷ [])
-unfolding digits
-event_objects = refl
-
-front_of_a_row : front plain 7 (codes "wake 3") (Wake 3) (codes "ignored") ≡ codes "   7"
-unfolding digits
-front_of_a_row = refl
-
 -- how the row of a wake-up of core 3 begins in JSON
 abbrev woken : ℕ → List ℕ → List ℕ
 woken number answer =
     codes "{\"number\": " ++ (decimal number ++ (codes ", \"line\": \"wake 3\", \"event\": "
     ++ (codes "{\"kind\": \"wake\", \"number\": 3}, \"answer\": \"" ++ (answer ++ codes "\""))))
-
-front_in_json : front Json 7 (codes "wake 3") (Wake 3) (codes "ignored") ≡ woken 7 (codes "ignored")
-unfolding digits
-front_in_json = refl
 
 -- A row -------------------------------------------------------------------------------------------
 

@@ -4,7 +4,6 @@ pub mod Counting
 pub mod Last
 pub mod ListRows
 pub mod Lists
-mod NamingRows
 pub mod Past
 mod PastRows
 mod PollRows
@@ -14,4 +13,3 @@ mod SeatRows
 pub mod StepRows
 pub mod Steps
 pub mod Told
-mod WritingRows
