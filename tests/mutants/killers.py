@@ -5,6 +5,7 @@ A killer is a name and a function that says whether a program with a number at w
 end does otherwise.
 """
 import errno
+import functools
 import glob
 import os
 import pickle
@@ -323,13 +324,18 @@ def of_tests(binary, crate):
     names = re.findall(rb"^(\S+): test$", listed, re.M)
     if status or not names:
         sys.exit(f"mutants: {crate} lists no tests")
-    killers = []
-    for name in (it.decode() for it in names):
-        begun = time.time()
-        said = ran([binary.at_work(schema.NONE), name], patience=100 * PATIENCE)
-        if not said or said[2]:
+    @functools.cache
+    def passes(name):
+        said = ran([binary.at_work(schema.NONE), name], patience=50 * PATIENCE)
+        return bool(said) and said[2] == 0
+
+    def fails(name, number):
+        said = ran([binary.at_work(number), name], patience=50 * PATIENCE)
+        if said and said[2] == 0:
+            return False
+        if not passes(name):
             sys.exit(f"mutants: {crate}/{name} fails with no wrong body at work")
-        patience = PATIENCE + 10 * (time.time() - begun)
-        killers.append(Killer(f"test {crate}/{name}", lambda number, name=name, patience=patience:
-                              (ran([binary.at_work(number), name], patience=patience) or (0, 0, -1))[2] != 0))
-    return killers
+        return True
+
+    return [Killer(f"test {crate}/{name}", lambda number, name=name: fails(name, number))
+            for name in (it.decode() for it in names)]
