@@ -28,6 +28,8 @@ Stored = namedtuple("Stored", "name script out err status")
 PATIENCE = 20
 # how many random scripts of the second model there are, and how many of them are drawn together
 RANDOM, TOGETHER = 2000, 100
+# how the names of the program's killers begin
+OF_PROGRAM = ("script", "random", "storm", "threads", "show", "whole")
 CACHE = f"{os.environ.get('XDG_CACHE_HOME') or os.path.expanduser('~/.cache')}/gumdarts/mutants"
 # threads of the program, each a run that is audited
 THREADS = [("threads", "--seed", str(seed), "--count", "200") for seed in range(1, 6)]
@@ -324,6 +326,7 @@ def of_tests(binary, crate):
     names = re.findall(rb"^(\S+): test$", listed, re.M)
     if status or not names:
         sys.exit(f"mutants: {crate} lists no tests")
+
     @functools.cache
     def passes(name):
         said = ran([binary.at_work(schema.NONE), name], patience=50 * PATIENCE)
