@@ -1,5 +1,5 @@
--- Worked examples of rows that no power controller keeps, and of what no call leaves. Two clusters of
--- two cores; core 3 was started twice, by a wake-up, and its cluster is in retention.
+-- Worked examples of rows that no power controller keeps, and of what no call leaves. Two clusters
+-- of two cores; core 3 was started twice, by a wake-up, and its cluster is in retention.
 use Rattle.std.proofs.Common.{◌≡◌, ℕ, List, [], ◌∷◌, Some, refl, ap, ◌++◌, arith}
 use Rattle.psci_board.specs.Board.{BoardValue}
 use Rattle.psci_ctl_spec.specs.psci_abi.declared.format.Format.TheVariants.{Original}

@@ -1,5 +1,5 @@
--- Worked examples: a firmware that is polled: what is no new one, and what no acknowledgement changes
--- of its values and writes of its statuses.
+-- Worked examples: a firmware that is polled: what is no new one, and what no acknowledgement
+-- changes of its values and writes of its statuses.
 use Rattle.std.proofs.Common.{◌≡◌, ℕ, ◌<◌, List, [], ◌∷◌, length, false, refl, sym}
 use Rattle.std.proofs.Common.{ap, ◌∙◌, subst, arith}
 use Rattle.atomic_table.specs.Seated.{TableId}

@@ -1,5 +1,5 @@
--- Worked examples of what no firmware keeps, before any core has entered and after it; of who may not
--- call; and of messages that are not for the system.
+-- Worked examples of what no firmware keeps, before any core has entered and after it; of who may
+-- not call; and of messages that are not for the system.
 use Rattle.std.proofs.Common.{◌≡◌, ℕ, ◌<◌, ◌≤◌, [], ◌∷◌, true, false, None, refl, ap, arith}
 use Rattle.psci_state.specs.declared.cores.Activity.TheVariants as activities
 use Rattle.psci_fw_spec.specs.declared.mode.SuspendMode.TheVariants.{OsInitiated, Platform}

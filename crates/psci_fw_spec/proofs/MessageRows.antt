@@ -1,5 +1,5 @@
--- Worked examples: what the message of a function names, and messages that name something else; which
--- acts go on.
+-- Worked examples: what the message of a function names, and messages that name something else;
+-- which acts go on.
 use Rattle.std.proofs.Common.{◌∷◌, ◌≡◌, [], false, map, negsuc, refl, Some, true, ℕ}
 use Rattle.psci_abi.specs.declared.request.Request.TheVariants.{CpuOff, CpuOn}
 use Rattle.psci_board.specs.Board.{core_of}

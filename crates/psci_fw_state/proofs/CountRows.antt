@@ -1,5 +1,5 @@
--- Worked examples of counts that are not those of the cores below a power domain, and of what may not
--- be taken away from them: an uneven board of height 2.
+-- Worked examples of counts that are not those of the cores below a power domain, and of what may
+-- not be taken away from them: an uneven board of height 2.
 use Rattle.std.proofs.Common.{◌≡◌, ℕ, zero, suc, ◌<◌, ◌≤◌, List, [], ◌∷◌, length, drop, get_or}
 use Rattle.std.proofs.Common.{refl, ap, arith}
 use Rattle.psci_board.specs.declared.node.Node.{Node}

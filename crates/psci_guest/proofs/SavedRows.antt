@@ -1,5 +1,5 @@
--- Worked examples of words that are refused: a guest of a board of one core, which runs in its first
--- start of life 2.
+-- Worked examples of words that are refused: a guest of a board of one core, which runs in its
+-- first start of life 2.
 use Rattle.std.proofs.Common.{ℕ, false, [], ◌∷◌, Some, None, refl}
 use Rattle.psci_board.specs.Board.{BoardValue}
 use Rattle.psci_board.specs.psci_abi.declared.format.Format.TheVariants.{Original}
