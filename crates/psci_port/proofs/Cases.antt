@@ -1,5 +1,5 @@
--- Worked examples of messages stand for these cases: on boards of height 2 and 3, of the boot core and
--- of core 3, in life 1 and in life 2, in standby and as a life ends.
+-- Worked examples of messages stand for these cases: on boards of height 2 and 3, of the boot core
+-- and of core 3, in life 1 and in life 2, in standby and as a life ends.
 use Rattle.std.proofs.Common.{◌∷◌, [], arith, List, Some, ℕ}
 use Rattle.std.specs.Prelude.{if◌then◌else◌, nat_le}
 use Rattle.psci_board.specs.Board.{BoardValue}

@@ -1,5 +1,6 @@
--- Worked examples: which clauses fail after acts, what is seen of a core then, and what it takes up;
--- of the boot core and of another one, in life 1 and in life 2. What breaks a clause breaks it alone.
+-- Worked examples: which clauses fail after acts, what is seen of a core then, and what it takes
+-- up; of the boot core and of another one, in life 1 and in life 2. What breaks a clause breaks it
+-- alone.
 use Rattle.std.proofs.Common.{◌∷◌, ◌++◌, [], false, None, Option, refl, Some, true, ℕ, Bool, List}
 use Rattle.psci_board.proofs.Tables.{◌⇒◌, Gives, Row}
 use Rattle.psci_port.specs.Stages.{Stage, Standing, AtDoor, Leaving, Normal, Armed, Woken}
@@ -160,7 +161,8 @@ leaves_its_cluster = on_3 ++ door 3 ++ comes 3
 abbrev carried_out_by_2 : List Act
 carried_out_by_2 = leaves_its_cluster ++ (Locks 2 ∷ Arms 2 ∷ delivers 2 ∷ delivers 3 ∷ [])
 
-left_over : Gives {B = ℕ × ℕ} (λ acts. ((after acts).values.depth 0 3, (after acts).values.depth 1 1))
+left_over : Gives {B = ℕ × ℕ}
+    (λ acts. ((after acts).values.depth 0 3, (after acts).values.depth 1 1))
     (leaves_its_cluster ⇒ (3, 0) ∷ carried_out_by_2 ⇒ (3, 3) ∷ [])
 unfolding playing
 left_over = refl

@@ -1,6 +1,7 @@
 -- Worked examples: what a port has written down after acts, which messages wait there, what a life
 -- leaves as it ends or begins, and the clauses as they stand.
-use Rattle.std.proofs.Common.{◌≡◌, ◌∷◌, ◌++◌, [], arith, Bool, false, length, List, map, None, Option}
+use Rattle.std.proofs.Common.{◌≡◌, ◌∷◌, ◌++◌, [], arith, Bool, false, length, List, map, None}
+use Rattle.std.proofs.Common.{Option}
 use Rattle.std.proofs.Common.{refl, reverse, Some, sym, true, ℕ}
 use Rattle.std.proofs.lemmas.Bool.{false≢true}
 use Rattle.std.proofs.lemmas.Option.{none-some}
@@ -128,7 +129,8 @@ comes_in_its_life = refl
 
 -- Doors ------------------------------------------------------------------------------------------
 
--- where core 3 is, whether it is held, and the starts for which its door was opened and that it used
+-- where core 3 is, whether it is held, and the starts for which its door was opened and that it
+-- used
 abbrev at_door : List Act → Stage × Bool × ℕ × ℕ
 at_door acts = let r = (after acts).row 3 in (r.stage, r.held, r.opened, r.used)
 
@@ -156,7 +158,8 @@ each_stage = refl
 
 -- but a core that is reset is at its door
 each_cause : map (λ cause. stage_by cause Armed)
-    (causes.Boot ∷ causes.On ∷ causes.Wake ∷ causes.Reset ∷ []) ≡ Woken ∷ Woken ∷ Woken ∷ AtDoor ∷ []
+    (causes.Boot ∷ causes.On ∷ causes.Wake ∷ causes.Reset ∷ [])
+    ≡ Woken ∷ Woken ∷ Woken ∷ AtDoor ∷ []
 each_cause = refl
 
 -- What waits -------------------------------------------------------------------------------------
@@ -168,8 +171,8 @@ waits_for (acts, call) = let p = after acts in waits board p.values (words p) ca
 abbrev torn : MessageValue
 torn = of_3 Down 0 (part 0 3 1 ∷ [])
 
--- its Down waits until it stands, and is stale once it is woken; one goes by its parts and its life;
--- after a start that it parks in, and once it was started meanwhile, it waits anew
+-- its Down waits until it stands, and is stale once it is woken; one goes by its parts and its
+-- life; after a start that it parks in, and once it was started meanwhile, it waits anew
 each_waits : Gives waits_for
     ((off_called, asked.Deliver down_3) ⇒ true ∷ (off_3, asked.Deliver down_3) ⇒ false
     ∷ (off_3 ++ (Wakes 3 ∷ []), asked.Deliver down_3) ⇒ false

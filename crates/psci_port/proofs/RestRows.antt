@@ -1,5 +1,5 @@
--- Worked examples: how much is due in a port, which start stands at a door, and ports that are at rest
--- or not.
+-- Worked examples: how much is due in a port, which start stands at a door, and ports that are at
+-- rest or not.
 use Rattle.std.proofs.Common.{◌≡◌, ◌∷◌, ◌++◌, [], arith, Bool, false, List, map, None, refl}
 use Rattle.std.proofs.Common.{Some, true, ℕ}
 use Rattle.psci_board.proofs.Tables.{◌⇒◌, Gives}
@@ -21,8 +21,8 @@ unfoldable pub counting : Unit {0}
 unfolding playing total
 counting = tt
 
--- the boot core from its door to the normal world; core 3 from its call to its stop, and where it is
--- armed and wakes itself; the cores' own are added up, in life 2 too
+-- the boot core from its door to the normal world; core 3 from its call to its stop, and where it
+-- is armed and wakes itself; the cores' own are added up, in life 2 too
 how_much : Gives (λ acts. left board (after acts))
     ([] ⇒ 12 ∷ (Writes 0 ∷ []) ⇒ 11 ∷ door 0 ⇒ 10 ∷ (door 0 ++ (TakesUp 0 ∷ [])) ⇒ 8
     ∷ (door 0 ++ (TakesUp 0 ∷ Locks 0 ∷ [])) ⇒ 7
@@ -43,7 +43,8 @@ each_call : (call_left (Call 3 (record { x0 = 0; x1 = 0; x2 = 0; x3 = 0 })) 1 �
     × (call_left (Enter 0) 7 ≡ 6) × (call_left (Take 4) 1 ≡ 2) × (call_left (Take 0) 4 ≡ 5)
 each_call = (refl, refl, refl, refl)
 
-whose_lock : map {B = Bool × Bool} (λ lock. (has_lock lock 0, has_lock lock 3)) (None ∷ Some 3 ∷ Some 0 ∷ [])
+whose_lock : map {B = Bool × Bool} (λ lock. (has_lock lock 0, has_lock lock 3))
+    (None ∷ Some 3 ∷ Some 0 ∷ [])
     ≡ (false, false) ∷ (false, true) ∷ (true, false) ∷ []
 whose_lock = refl
 

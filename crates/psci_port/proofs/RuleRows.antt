@@ -1,5 +1,5 @@
--- Worked examples: acts that the rules of a port refuse, and some that they allow; which acts are due,
--- of the boot core and of another one, in life 1 and in life 2; and which never are.
+-- Worked examples: acts that the rules of a port refuse, and some that they allow; which acts are
+-- due, of the boot core and of another one, in life 1 and in life 2; and which never are.
 use Rattle.std.proofs.Common.{◌≡◌, ◌∷◌, ◌++◌, [], arith, List, None, Option, refl, Some, true, ℕ}
 use Rattle.std.proofs.lemmas.Bool.{false≢true}
 use Rattle.std.proofs.lemmas.Option.{none-some}
@@ -9,8 +9,10 @@ use Rattle.psci_world_spec.specs.declared.said.Record.{Record}
 use Rattle.psci_world_spec.specs.declared.said.Said.TheVariants.{Absent}
 use Rattle.psci_world_spec.proofs.Scripts.{board, limited}
 use Rattle.psci_port.specs.Stages.{Stage, Standing, AtDoor, Entering, Normal, Leaving, Armed, Woken}
-use Rattle.psci_port.specs.Port.{Act, Locks, Unlocks, Enters, Takes, Finishes, TakesUp, Stands, Arms}
-use Rattle.psci_port.specs.Port.{Sleeps, Delivers, Wakes, Resets, Rouses, Rises, Turns, Writes, Opens}
+use Rattle.psci_port.specs.Port.{Act, Locks, Unlocks, Enters, Takes, Finishes, TakesUp, Stands}
+use Rattle.psci_port.specs.Port.{Arms}
+use Rattle.psci_port.specs.Port.{Sleeps, Delivers, Wakes, Resets, Rouses, Rises, Turns, Writes}
+use Rattle.psci_port.specs.Port.{Opens}
 use Rattle.psci_port.specs.Port.{Cuts, Port, Restarts, Reboots, blank, cold, with_row}
 use Rattle.psci_port.specs.Resting.{Goes, IsDue, is_entering}
 use Rattle.psci_port.specs.Rules.{AreTrue, IsPortRun, IsTrue, May}
@@ -27,8 +29,8 @@ RefusedIn p act = May board p act → ⊥
 abbrev Refused : List Act → Act → Type 0
 Refused acts act = RefusedIn (after acts) act
 
--- a second holder of the lock, one that is inside a call, a call without the lock, and one of a core
--- that leaves; a core that stands, sleeps, is reset or woken with the lock in hand
+-- a second holder of the lock, one that is inside a call, a call without the lock, and one of a
+-- core that leaves; a core that stands, sleeps, is reset or woken with the lock in hand
 without_the_lock :
     Refused off_called (Locks 0)
     × Refused (on_3 ++ (Locks 0 ∷ asks 0 0x84000000 0 0 0 ∷ [])) (Unlocks 0)
@@ -44,7 +46,8 @@ unfolding playing
 without_the_lock = search arith
 
 -- a start is taken up once, at an open door, by a core that was started and is not held; a door is
--- written before it is opened; what switches a core waits until that stands, and a start for the lock
+-- written before it is opened; what switches a core waits until that stands, and a start for the
+-- lock
 at_its_door :
     Refused off_3 (TakesUp 3)
     × Refused (on_3 ++ door 3 ++ (Resets 3 ∷ [])) (TakesUp 3)
@@ -125,8 +128,9 @@ invents_nothing = search arith
 abbrev Due : List Act → Act → Type 0
 Due acts act = IsDue board (after acts) act
 
--- A core that runs after some acts is reset, and goes its way into the firmware; it ends a call there,
--- and gives the lock back; it goes off, and stands; or it is armed and sleeps, or wakes itself.
+-- A core that runs after some acts is reset, and goes its way into the firmware; it ends a call
+-- there, and gives the lock back; it goes off, and stands; or it is armed and sleeps, or wakes
+-- itself.
 abbrev DueOf : List Act → ℕ → Type 0
 DueOf on c =
     Due (on ++ (Resets c ∷ [])) (Writes c)
@@ -191,8 +195,8 @@ from_outside :
     × Never on_3 (asks 0 0x84000000 0 0 0)
 from_outside = search arith
 
--- a core on its way in keeps the lock, one of the normal world takes none; and what stands at a door
--- is not written again, nor what is open opened
+-- a core on its way in keeps the lock, one of the normal world takes none; and what stands at a
+-- door is not written again, nor what is open opened
 once :
     Never (door 0 ++ (TakesUp 0 ∷ Locks 0 ∷ [])) (Unlocks 0)
     × Never on_3 (Locks 0)

@@ -1,6 +1,7 @@
--- Worked examples, clause by clause: which messages are to be served, how much of one is still to be
--- carried out, what a delivery leaves, and what is outstanding.
-use Rattle.std.proofs.Common.{◌<◌, ◌≤◌, ◌∷◌, ◌++◌, ◌≡◌, [], ap, arith, Bool, false, List, map, None, Option}
+-- Worked examples, clause by clause: which messages are to be served, how much of one is still to
+-- be carried out, what a delivery leaves, and what is outstanding.
+use Rattle.std.proofs.Common.{◌<◌, ◌≤◌, ◌∷◌, ◌++◌, ◌≡◌, [], ap, arith, Bool, false, List, map, None}
+use Rattle.std.proofs.Common.{Option}
 use Rattle.std.proofs.Common.{◌∙◌, refl, Some, subst, suc, sym, true, zero, ℕ}
 use Rattle.std.specs.Prelude.{◌==◌, ◌&&◌, ◌||◌, if◌then◌else◌, not}
 use Rattle.std.proofs.lemmas.Bool.{eqb-false, false≢true}
@@ -26,7 +27,8 @@ use Rattle.psci_port.specs.Served.{AllServed, AreHeard, IsSpent, IsToServe, ends
 use Rattle.psci_port.specs.Undone.{IsListed, LeavesLess, is_undone, left_of, served, undone}
 use Rattle.psci_port.proofs.Cases.{Each, at_depths, down_of, down_to, of_system, on, sendable}
 use Rattle.psci_port.proofs.Cases.{standby, whole, whole_tall}
-use Rattle.psci_port.proofs.Playing.{after, delivers, down_3, of_3, off_3, off_called, playing, takes}
+use Rattle.psci_port.proofs.Playing.{after, delivers, down_3, of_3, off_3, off_called, playing}
+use Rattle.psci_port.proofs.Playing.{takes}
 
 -- What an acknowledgement leaves -----------------------------------------------------------------
 
@@ -138,8 +140,8 @@ undone_parts = refl
 abbrev left_then : BoardValue × Values × MessageValue → ℕ × ℕ
 left_then (b, v, m) = (left_of b v m, left_of b (served b v m) m)
 
--- a core alone is carried out, with its cluster, in life 2, and not in another life; standby, beside
--- a core in retention too; no part of the system; what is as deep, and what is out of date
+-- a core alone is carried out, with its cluster, in life 2, and not in another life; standby,
+-- beside a core in retention too; no part of the system; what is as deep, and what is out of date
 parts_left : Gives left_then
     ((board, at_depths 1 on, down_of 0 1 whole) ⇒ (3, 2)
     ∷ (board, at_depths 1 (beside 0), down_of 0 1 whole) ⇒ (3, 1)
@@ -188,7 +190,8 @@ each_less :
     -- each_less_in_standby: a core goes to standby
     × LeavesLess board (at_depths 1 on) (down_of 1 1 standby ∷ []) (down_of 0 1 standby)
     -- each_less_life_ends: as the system is reset, of a Down its part is left again
-    × LeavesLess board (at_depths 1 (down_to 2)) (down_of 0 1 (part 0 3 1 ∷ []) ∷ []) (of_system Reset 1)
+    × LeavesLess board (at_depths 1 (down_to 2)) (down_of 0 1 (part 0 3 1 ∷ []) ∷ [])
+    (of_system Reset 1)
     -- each_less_another_life: a Down of life 1 is undone in life 2
     × LeavesLess board (at_depths 2 (alone_at 2 3)) (down_of 3 1 core_alone ∷ [])
     (down_of 3 2 whole)

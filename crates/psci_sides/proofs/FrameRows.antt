@@ -21,8 +21,10 @@ use Rattle.psci_sides.specs.Machine.{Machine}
 use Rattle.psci_sides.specs.Steps.{BeginCall, Carry, DeliverKept, DeliverMail, GiveLock}
 use Rattle.psci_sides.specs.Steps.{Hear, KeepBack, SendAgain, Stand, Step, TakeAck, TakeLock}
 use Rattle.psci_sides.proofs.Framed.{nothing_in}
-use Rattle.psci_sides.proofs.Pair.{ack_of, anew, both_run, code, cpu_off, done, goes_off, inside_off}
-use Rattle.psci_sides.proofs.Pair.{off_message, on_message, pair, playing, stands_off, start, turns_on}
+use Rattle.psci_sides.proofs.Pair.{ack_of, anew, both_run, code, cpu_off, done, goes_off}
+use Rattle.psci_sides.proofs.Pair.{inside_off}
+use Rattle.psci_sides.proofs.Pair.{off_message, on_message, pair, playing, stands_off, start}
+use Rattle.psci_sides.proofs.Pair.{turns_on}
 use Rattle.psci_sides.proofs.StepRows.{off_sendable}
 
 -- Core 0 has asked core 1 on, and the frame is in the mailbox; it is lost; core 1 was started.

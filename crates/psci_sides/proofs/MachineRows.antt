@@ -1,5 +1,5 @@
--- Worked examples: a run of a machine of two cores, which acts its steps are, and for each clause of
--- what holds of a machine a state that breaks it.
+-- Worked examples: a run of a machine of two cores, which acts its steps are, and for each clause
+-- of what holds of a machine a state that breaks it.
 use Rattle.std.proofs.Common.{◌∷◌, ◌++◌, ◌≡◌, [], arith, Bool, false, inl, inr, length, List, map}
 use Rattle.std.proofs.Common.{◌<◌, None, Option, refl, Some, sym, true, ℕ}
 use Rattle.std.proofs.lemmas.Bool.{eqb-false, false≢true}
@@ -14,7 +14,8 @@ use Rattle.psci_control.specs.declared.order.Order.TheVariants.{End, Raise, Swit
 use Rattle.psci_control.specs.ControlSide.{waits_in}
 use Rattle.psci_enter.specs.declared.order.Look.TheVariants as look
 use Rattle.psci_enter.specs.declared.post.Post.{Post}
-use Rattle.psci_enter.specs.declared.post.Post.TheVariants.{Waiting, Entering, Leaving, Armed, Woken}
+use Rattle.psci_enter.specs.declared.post.Post.TheVariants.{Waiting, Entering, Leaving, Armed}
+use Rattle.psci_enter.specs.declared.post.Post.TheVariants.{Woken}
 use Rattle.psci_port.specs.Port.{Arms, Cuts, Locks, Rises, Rouses, Sleeps, Stands, TakesUp, Turns}
 use Rattle.psci_port.specs.Port.{Unlocks, Writes}
 use Rattle.psci_sides.specs.Kept.{Agree, AllStill, IsLocked, IsStill, NoneCut, NoneLost}
@@ -25,8 +26,10 @@ use Rattle.psci_sides.specs.Steps.{ArmCore, BeginEntry, CutPower, GiveLock, Hear
 use Rattle.psci_sides.specs.Steps.{RiseCore, RouseCore, ServeDoor, SleepCore, Stand, Step, TakeLock}
 use Rattle.psci_sides.specs.Steps.{TurnCore, after, came_back, due_at, found_in, may_hold, wake_of}
 use Rattle.psci_sides.proofs.Pair.{anew, arms_off, boot, both_run, cpu_off, done, first_start}
-use Rattle.psci_sides.proofs.Pair.{goes_off, inside_a_call, inside_off, off_again, off_message, on_start}
-use Rattle.psci_sides.proofs.Pair.{open_on, pair, playing, rises_off, roused_off, sleeps_off, stands_off}
+use Rattle.psci_sides.proofs.Pair.{goes_off, inside_a_call, inside_off, off_again, off_message}
+use Rattle.psci_sides.proofs.Pair.{on_start}
+use Rattle.psci_sides.proofs.Pair.{open_on, pair, playing, rises_off, roused_off, sleeps_off}
+use Rattle.psci_sides.proofs.Pair.{stands_off}
 use Rattle.psci_sides.proofs.Pair.{started_again, started_armed, turns_off, turns_on}
 
 -- The run ----------------------------------------------------------------------------------------
@@ -89,7 +92,8 @@ waits_though_heard : map (λ (m : Machine). (waits_in m.control (wake_of m 1)))
 unfolding playing
 waits_though_heard = refl
 
-its_new_down_waits : waits_in (hearing (done locked_armed) 1).control (asked.Deliver off_again) ≡ true
+its_new_down_waits :
+    waits_in (hearing (done locked_armed) 1).control (asked.Deliver off_again) ≡ true
 unfolding playing
 its_new_down_waits = refl
 

@@ -16,7 +16,8 @@ use Rattle.psci_port.specs.Served.{IsSpent}
 use Rattle.psci_enter.specs.declared.post.Post.TheVariants.{Waiting}
 use Rattle.psci_sides.specs.Frames.{IsLost, IsOut, IsServed, IsWanted, Serves, is_end_of}
 use Rattle.psci_sides.specs.Steps.{DeliverKept, DeliverMail, Hear, SendAgain, TakeAck, TakeLock}
-use Rattle.psci_sides.proofs.Framed.{agree, at_post, end_of, ended, framed, framed_and_ended, holding}
+use Rattle.psci_sides.proofs.Framed.{agree, at_post, end_of, ended, framed, framed_and_ended}
+use Rattle.psci_sides.proofs.Framed.{holding}
 use Rattle.psci_sides.proofs.Framed.{is_lost, is_wanted, kept, lifeless, lost, none_out, nothing_in}
 use Rattle.psci_sides.proofs.Framed.{sent_once, slot_number, taken, unheard}
 use Rattle.psci_sides.proofs.Pair.{anew, code, playing}

@@ -19,11 +19,13 @@ use Rattle.psci_enter.specs.declared.order.Look.TheVariants as look
 use Rattle.psci_sides.specs.Machine.{Machine}
 use Rattle.psci_sides.specs.Steps.{ArmCore, ArmedLacks, BeginCall, BeginEntry, Carry, CutPower}
 use Rattle.psci_sides.specs.Steps.{DeliverKept, DeliverMail, EndCall, GiveLock, IsDue, IsMadeAnew}
-use Rattle.psci_sides.specs.Steps.{KeepBack, LookAtDoor, May, MayReset, MayRise, NoneArmed, RiseCore}
+use Rattle.psci_sides.specs.Steps.{KeepBack, LookAtDoor, May, MayReset, MayRise, NoneArmed}
+use Rattle.psci_sides.specs.Steps.{RiseCore}
 use Rattle.psci_sides.specs.Steps.{RouseCore, SendAgain, ServeDoor, SleepCore, Stand, Step, TakeAck}
 use Rattle.psci_sides.specs.Steps.{TakeLock, TurnCore, WakeUp, came_back, wake_of}
 use Rattle.psci_sides.proofs.Framed.{nothing_in}
-use Rattle.psci_sides.proofs.Pair.{ack_of, anew, arms_off, boot, booted, both_run, code, cpu_off, done}
+use Rattle.psci_sides.proofs.Pair.{ack_of, anew, arms_off, boot, booted, both_run, code, cpu_off}
+use Rattle.psci_sides.proofs.Pair.{done}
 use Rattle.psci_sides.proofs.Pair.{goes_off, inside_a_call, inside_off, looked_on, off_message}
 use Rattle.psci_sides.proofs.Pair.{on_message, on_start, pair, playing, rises_off, roused_off}
 use Rattle.psci_sides.proofs.Pair.{stands_off, started_armed, turns_on}
