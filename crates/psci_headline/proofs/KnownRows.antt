@@ -1,42 +1,44 @@
--- Worked examples: records after which just one thing is not so that the laws say of live claims, of
+-- Worked examples: records after which just one thing is not so that laws say of live claims, of
 -- cores that are powered down, of what the firmware and the power controller know of each other, of
--- refusals, of what waits, and of what is yet to be confirmed.
-use Rattle.std.proofs.Common.{◌≡◌, ◌⊎◌, ◌≤◌, ◌<◌, ◌==◌, ◌+◌, ℕ, zero, suc, pos, Bool, true, false, cond}
+-- refusals, of what waits, is yet to be confirmed, is at rest and is told. The files RestRows and
+-- UntoldRows have more of the last two, by the tests of them.
+use Rattle.std.proofs.Common.{◌≡◌, ◌⊎◌, ◌≤◌, ◌<◌, ◌++◌, ℕ, pos, Bool, true, false}
 use Rattle.std.proofs.Common.{List, [], ◌∷◌, None, Some, inl, inr, refl, arith, slice_get, subst}
-use Rattle.std.proofs.Common.{unwrap_or}
 use Rattle.std.proofs.lemmas.Bool.Decides.{nat_tests}
 use Rattle.std.proofs.lemmas.Option.{none-some, same_Some}
 use Rattle.psci_board.specs.Board.{BoardValue}
 use Rattle.psci_ctl_spec.specs.psci_messages.Message.{AckValue, MessageValue}
-use Rattle.psci_ctl_spec.specs.psci_messages.OnlyIf.{only_if}
 use Rattle.psci_ctl_spec.specs.psci_messages.Slots.{OfCore, answers}
 use Rattle.psci_ctl_spec.specs.psci_messages.declared.kind.Kind.TheVariants.{Down, Start}
 use Rattle.psci_ctl_spec.specs.psci_messages.declared.start.Cause.TheVariants as causes
 use Rattle.psci_fw_laws.specs.KnownBelow.{known_below}
-use Rattle.psci_fw_laws.specs.psci_fw_spec.Lives.{in_life, start_of_life}
+use Rattle.psci_fw_laws.specs.psci_fw_spec.Lives.{start_of_life}
 use Rattle.psci_fw_laws.specs.psci_fw_spec.Phases as phases
 use Rattle.psci_fw_laws.specs.psci_fw_spec.Values.{updated}
 use Rattle.psci_fw_laws.specs.psci_fw_spec.declared.fault.FwFault.TheVariants.{NotRunning}
-use Rattle.psci_world_spec.specs.Histories.{controller_values, firmware_values}
+use Rattle.psci_fw_laws.specs.psci_fw_spec.declared.hw.Hw.TheVariants.{Off, On, Standby}
+use Rattle.psci_world_spec.specs.Histories.{firmware_values}
 use Rattle.psci_world_spec.specs.Legal.{run_from}
-use Rattle.psci_world_spec.specs.Places.{place}
-use Rattle.psci_world_spec.specs.declared.event.Event.TheVariants.{Deliver, Enter, Take, Wake}
+use Rattle.psci_world_spec.specs.declared.event.Event.TheVariants.{Deliver, Enter, Reset, Take}
+use Rattle.psci_world_spec.specs.declared.event.Event.TheVariants.{Wake}
 use Rattle.psci_world_spec.specs.declared.place.Place.TheVariants.{Started, Stopped}
 use Rattle.psci_world_spec.specs.declared.said.Record.{Record}
-use Rattle.psci_world_spec.proofs.Scripts.{acked, board, call, computing, enters, goes_down, limited}
-use Rattle.psci_world_spec.proofs.Scripts.{nothing, off, on_3, one_core, part, resumes, retention}
-use Rattle.psci_world_spec.proofs.Scripts.{returns, sends, started, stops, system_off, system_reset}
-use Rattle.psci_world_spec.proofs.Scripts.{tall, version}
+use Rattle.psci_world_spec.proofs.Scripts.{acked, board, call, computing, enters, goes_down}
+use Rattle.psci_world_spec.proofs.Scripts.{limited, nothing, off, on_3, one_core, part, resumes}
+use Rattle.psci_world_spec.proofs.Scripts.{retention, returns, sends, started, stops, system_off}
+use Rattle.psci_world_spec.proofs.Scripts.{system_reset, tall, value, version}
 use Rattle.psci_headline.specs.Agreement.{Agree, AgreeIn}
 use Rattle.psci_headline.specs.Claims.{Claim, claims, live_claims}
-use Rattle.psci_headline.specs.Confirming.{AreConfirming, Confirming}
+use Rattle.psci_headline.specs.Complete.{IsToldWhole}
+use Rattle.psci_headline.specs.Confirming.{Confirming}
+use Rattle.psci_headline.specs.Drained.{AreAtRest}
 use Rattle.psci_headline.specs.Live.{AreApart, AreAsked, AreClaimed, NoneExecutes}
 use Rattle.psci_headline.specs.Moments.{was_powered_down}
 use Rattle.psci_headline.specs.PoweredDown.{AreDown}
 use Rattle.psci_headline.specs.Refusals.{NoneRefused}
 use Rattle.psci_headline.specs.Waiting.{IsTold, Waiting, WasTold}
 use Rattle.psci_headline.proofs.Histories.{at, life_2, standby, third_on}
-use Rattle.psci_headline.proofs.Checking.{◌⇒◌, Legal, Steps, by_core, past_from}
+use Rattle.psci_headline.proofs.Checking.{◌⇒◌, Legal, Steps, past_from}
 
 -- core 3 runs beside the boot core, and these steps come
 abbrev past : List Steps → List Record
@@ -354,3 +356,86 @@ not_waiting = (
   λ w. let t = first_told _ _ _ _ _ _ ((w 1 refl).told 0 _ refl refl) refl in
       t.stale refl refl 0 _ (omega arith) refl refl,
 )
+
+-- At rest, and told ---------------------------------------------------------------------------
+
+-- after these steps it is not
+abbrev Restless : BoardValue → List Steps → Type 0
+Restless b steps = AreAtRest b (past_from b [] steps) → ⊥
+
+-- of core 0, and of core 3, no acknowledgement was taken
+own_waits : Restless board (Legal (Enter 0 ∷ standby 0 ∷ Deliver 0 ∷ []) ∷ [])
+unfolding computing
+own_waits rest = let no = rest.own 0 (omega arith) in cc
+
+third_waits : Restless board (Legal (third_on ++ off 3 ∷ Deliver 1 ∷ []) ∷ [])
+unfolding computing
+third_waits rest = let no = rest.own 3 (omega arith) in cc
+
+-- a Reset waits
+system_waits : Restless board (Legal (third_on ++ system_reset 3 ∷ []) ∷ [])
+unfolding computing
+system_waits rest = let no = rest.system in cc
+
+-- the boot core waits at its start, and core 3, which was reset
+boot_core_starts : Restless board []
+unfolding computing
+boot_core_starts rest = rest.entered 0 (omega arith) refl
+
+third_starts : Restless board (Legal (third_on ++ Reset 3 ∷ []) ∷ [])
+unfolding computing
+third_starts rest = rest.entered 3 (omega arith) refl
+
+-- core 0 was granted standby, and stays on
+core_stays_on : Restless board (Legal (Enter 0 ∷ standby 0 ∷ []) ∷ Deliver 0
+    ⇒ acked 0 Down 0 1 1 0 true ∷ Legal (Take 0 ∷ []) ∷ [])
+unfolding computing
+core_stays_on rest =
+    let no : 1 ≡ 0 = rest.agree (at 0 0) (record { level = omega arith; place = omega arith }) in
+    absurd (omega (arith, no))
+
+tall_system_stays_on : Restless tall
+    (Legal (Enter 0 ∷ call 0 0xc4000001 0x03013333 0x40000100 0 ∷ [])
+    ∷ Deliver 0 ⇒ acked 0 Down 0 1 1 3 true ∷ Legal (Take 0 ∷ []) ∷ [])
+unfolding computing
+tall_system_stays_on rest =
+    let no : 3 ≡ 0 = rest.agree (at 3 0) (record { level = omega arith; place = omega arith }) in
+    absurd (omega (arith, no))
+
+-- core 3 has resumed, and then its old Down was carried out: it is deeper than granted
+core_is_deeper : Restless board (Legal (third_on ++ retention 3 ∷ Wake 3 ∷ Enter 3 ∷ [])
+    ∷ Deliver 1 ⇒ acked 1 Down 3 1 1 1 false ∷ [])
+unfolding computing
+core_is_deeper rest =
+    let no : 0 ≡ 2 = rest.agree (at 0 3) (record { level = omega arith; place = omega arith }) in
+    absurd (omega (arith, no))
+
+-- the boot core goes off, and core 3 runs
+boot_core_going_off : IsToldWhole board (past_from board [] (Legal (third_on ++ off 0 ∷ []) ∷ []))
+    → ⊥
+unfolding computing
+boot_core_going_off told = let no = told.off 0 (omega arith) refl in cc
+
+-- core 3 is off, and is answered as if it ran
+answered_off : IsToldWhole board (past_from board []
+    (Legal (third_on ++ off 3 ∷ Deliver 1 ∷ Take 1 ∷ []) ∷ version 3 ⇒ value 0x10001 ∷ [])) → ⊥
+unfolding computing
+answered_off told = let no = told.away 3 (omega arith) refl in cc
+
+-- on three levels the system is off, and was acknowledged of what is below it alone
+system_told_off : IsToldWhole tall (past_from tall []
+    (Legal (Enter 0 ∷ call 0 0xc4000001 0x03013333 0x40000100 0 ∷ Deliver 0 ∷ [])
+    ∷ Deliver 0 ⇒ acked 1 Down 0 1 1 3 true ∷ Legal (Take 1 ∷ []) ∷ [])) → ⊥
+unfolding computing
+system_told_off told =
+    let no : On ≡ Off = told.hw (at 3 0) (record { level = omega arith; place = omega arith }) in
+    cc
+
+-- nothing was delivered, and the Down of core 3, which is on, was acknowledged
+never_delivered : IsToldWhole board (past_from board [] (Legal (third_on ++ retention 3 ∷ [])
+    ∷ Deliver 9 ⇒ acked 1 Down 3 1 1 1 false ∷ Legal (Take 1 ∷ []) ∷ [])) → ⊥
+unfolding computing
+never_delivered told =
+    let no : Standby ≡ On = told.hw (at 0 3)
+    (record { level = omega arith; place = omega arith }) in
+    cc

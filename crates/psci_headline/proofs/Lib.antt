@@ -16,12 +16,9 @@ pub mod Deliveries
 pub mod Entering
 pub mod Filters
 pub mod Functions
-mod HaltingRows
 pub mod Happening
-mod HardwareRows
 mod KnownRows
 mod Histories
-mod LevelsRows
 pub mod Items
 pub mod LiveOnes
 mod LivesRows
@@ -31,7 +28,6 @@ pub mod Moving
 pub mod Naming
 pub mod Nexts
 mod Once
-mod OpeningRows
 pub mod Outcomes
 pub mod Placing
 mod PairRows
@@ -40,7 +36,6 @@ pub mod Quiet
 mod Ranges
 pub mod Refusing
 pub mod Returned
-mod SafeRows
 pub mod Sending
 pub mod Slept
 pub mod Sound
@@ -48,9 +43,8 @@ pub mod States
 pub mod StatesReal
 mod Tested
 pub mod ToldHw
-mod ToldHwRows
 pub mod ToldOff
-mod ToldOffRows
+mod ToldRows
 pub mod Waiting
 pub mod Words
 -- In the order of the argument of docs/understand/SETTLING.md.
@@ -94,9 +88,7 @@ pub mod Sources
 pub mod Settled
 mod Excluded
 mod Failing
-mod NameRows
 mod RestRows
-mod SettledRows
 mod SettleRows
 -- What is told once both sides agree.
 -- In the order of the argument of docs/understand/SETTLING.md.
@@ -108,7 +100,6 @@ pub mod Whole
 -- Worked examples.
 pub mod Untold
 mod UntoldRows
-mod WholeRows
 pub use Rattle.psci_ctl_spec.proofs as ctl_spec
 pub use Rattle.psci_fw_laws.proofs.fw_spec
 pub use Rattle.psci_world_spec.proofs as world_spec
