@@ -1,6 +1,7 @@
--- Worked examples: Downs for which cores had asked, at each level, in both modes, in life 2 and in
--- a life that is halting.
-use Rattle.std.proofs.Common.{◌≤◌, ◌++◌, ℕ, List, [], ◌∷◌, inl, inr, refl, arith, ◌≡◌, Some}
+-- Worked examples: Downs for which cores had asked, and such for which they had not; histories that
+-- break sentence 3, in which a domain is deeper than the cores below it had asked for: at each
+-- level, in both modes, in life 2 and in a life that is halting.
+use Rattle.std.proofs.Common.{◌≤◌, ◌++◌, ℕ, List, [], ◌∷◌, inl, inr, refl, arith, ◌≡◌, Some, false}
 use Rattle.psci_headline.specs.psci_ctl_spec.Values.{starts_below}
 use Rattle.psci_headline.specs.psci_fw_laws.Claims.{part_for}
 use Rattle.psci_headline.specs.psci_world_spec.Histories.{controller_values, sent_in}
@@ -16,10 +17,12 @@ use Rattle.psci_headline.specs.psci_world_spec.declared.event.Event.{Event}
 use Rattle.psci_headline.specs.psci_world_spec.declared.event.Event.TheVariants.{Deliver, Enter}
 use Rattle.psci_headline.specs.psci_world_spec.declared.event.Event.TheVariants.{Wake}
 use Rattle.psci_headline.proofs.world_spec.Scripts.{call, goes_down, off, part, system_off}
-use Rattle.psci_headline.proofs.world_spec.Scripts.{system_reset}
-use Rattle.psci_platform_safe.proofs.Histories.{after, computing, core_1_on, life_2, on_1, says}
-use Rattle.psci_platform_safe.proofs.Histories.{suspend, tall, tall_on, told, two}
-use Rattle.psci_platform_safe.proofs.Moments.{all_ask, not_asked_for}
+use Rattle.psci_headline.proofs.world_spec.Scripts.{system_reset, acked}
+use Rattle.psci_platform_safe.proofs.Histories.{after, computing, core_1_on, on_1, on_in_life_2, says}
+use Rattle.psci_platform_safe.proofs.Histories.{suspend, tall, tall_on, told, two, on_by_the_system}
+use Rattle.psci_platform_safe.proofs.Histories.{tall_after}
+use Rattle.psci_platform_safe.proofs.Moments.{all_ask, not_asked_for, deeper}
+use Rattle.psci_platform_safe.specs.Safe.{NoDeeperThanAsked}
 
 -- a Down as the firmware sends it: its core, its life and its parts
 abbrev down : ℕ → ℕ → List Part → MessageValue
@@ -60,8 +63,6 @@ group_down = tall_on ++ suspend 0x10100 0x02010223 ∷ []
 
 abbrev core_in_standby : List Event
 core_in_standby = tall_on ++ suspend 0x10100 0x00000001 ∷ []
-
--- In platform-coordinated mode -------------------------------------------------------------------
 
 -- a group, by both its cores, of which one is off
 group_was_asked : WasAskedFor tall (run_on tall [] (group_down ++ Deliver 1 ∷ [])) 0x10000 2 1 3
@@ -119,15 +120,13 @@ core_was_asked =
     all_ask tall (run_on tall [] core_in_standby) 0x10100 0 1 0
     (inr yes, (inl refl, (inl refl, (inl refl, tt)))))
 
--- In OS-initiated mode ---------------------------------------------------------------------------
-
-abbrev on_by_the_system : List Event
-on_by_the_system = Enter 0x100 ∷ call 0x100 0x8400000f 1 0 0
+abbrev tall_on_by_the_system : List Event
+tall_on_by_the_system = Enter 0x100 ∷ call 0x100 0x8400000f 1 0 0
     ∷ call 0x100 0xc4000003 0x10100 0x40001000 7
     ∷ Deliver 0 ∷ Enter 0x10100 ∷ []
 
 abbrev group_down_by_the_system : List Event
-group_down_by_the_system = on_by_the_system ++ suspend 0x10100 0x02010113 ∷ []
+group_down_by_the_system = tall_on_by_the_system ++ suspend 0x10100 0x02010113 ∷ []
 
 -- the last core asks for the group, and each core for at least as much of itself
 group_was_asked_by_its_last_core : WasAskedFor tall
@@ -135,19 +134,14 @@ group_was_asked_by_its_last_core : WasAskedFor tall
 unfolding computing
 group_was_asked_by_its_last_core =
     was_asked tall (told tall (run_on tall [] (group_down_by_the_system)) (Deliver 1) ∷ [])
-    (run_on tall [] on_by_the_system)
-    (told tall (run_on tall [] on_by_the_system) (suspend 0x10100 0x02010113)) 0x10000 2 1
+    (run_on tall [] tall_on_by_the_system)
+    (told tall (run_on tall [] tall_on_by_the_system) (suspend 0x10100 0x02010113)) 0x10000 2 1
     (down 3 1 (part 0 3 1 ∷ part 1 2 1 ∷ part 2 2 1 ∷ [])) (part 2 2 1) refl refl refl (
       (let own : 2 ≤ 2 = omega arith in own),
       let yes : 2 ≤ 3 = omega arith in
           all_ask tall (run_on tall [] group_down_by_the_system) 0x10000 2 2 0
           (inr yes, (inr yes, (inl refl, (inl refl, tt)))),
     )
-
--- Lives ------------------------------------------------------------------------------------------
-
-abbrev on_in_life_2 : List Event
-on_in_life_2 = life_2 ++ on_1 ∷ Deliver 1 ∷ Enter 1 ∷ []
 
 abbrev off_in_life_2 : List Event
 off_in_life_2 = on_in_life_2 ++ off 1 ∷ []
@@ -179,8 +173,6 @@ group_was_asked_before_halting =
     all_ask tall (run_on tall [] group_down) 0x10100 2 3 2
     (inr yes, (inr yes, (inl refl, (inl refl, tt)))))
 
--- Not asked for ----------------------------------------------------------------------------------
-
 -- core 1 is suspended by a word, and its Down has these parts
 abbrev says_down : ℕ → List Part → List Record
 says_down word parts = says (after core_1_on) (suspend 1 word) (goes_down 1 1 1 1 parts)
@@ -208,4 +200,79 @@ was_not_asked = (
   not_asked_for _ _ _ _ _ _ (search arith),
   not_asked_for _ _ _ _ _ _ (search arith),
   not_asked_for _ _ _ _ _ _ (search arith),
+)
+
+-- a core asks by its word for less than what is carried out
+at_each_level :
+    -- deeper_core: for retention, and core 1 is powered down
+    (NoDeeperThanAsked two (run_on two (says (after core_1_on) (suspend 1 0x00000001)
+    (goes_down 1 1 1 1 (part 0 3 1
+    ∷ []))) (Deliver 1 ∷ [])) → ⊥)
+    -- deeper_boot_core: so does the boot core
+    × (NoDeeperThanAsked two (run_on two (says (after (Enter 0x200
+    ∷ [])) (suspend 0x200 0x00000001) (goes_down 0 0x200 1 1 (part 0 3 1 ∷ []))) (Deliver 0 ∷ []))
+    → ⊥)
+    -- deeper_cluster: for power-down of itself alone, and its cluster is powered down
+    × (NoDeeperThanAsked two (run_on two (says (after core_1_on) (suspend 1 0x00010002)
+    (goes_down 1 1 1 1 (part 0 3 1
+    ∷ part 1 3 1 ∷ []))) (Deliver 1 ∷ [])) → ⊥)
+    -- deeper_group: the far core for its cluster, and its group is powered down
+    × (NoDeeperThanAsked tall (run_on tall (says (tall_after tall_on) (suspend 0x10100 0x01010023)
+    (goes_down 1 0x10100 1 1 (part 0 3 1
+    ∷ part 1 3 1 ∷ part 2 3 1 ∷ []))) (Deliver 1 ∷ [])) → ⊥)
+    -- deeper_system: the far core for its group, and the system is powered down
+    × (NoDeeperThanAsked tall (says (says (tall_after tall_on) (suspend 0x10100 0x02010223)
+    (goes_down 1 0x10100 1 1 (part 0 3 1
+    ∷ part 1 3 1 ∷ part 2 3 1 ∷ part 3 3 2 ∷ []))) (Deliver 1) (acked 1 Down 0x10100 1 1 4 false))
+    → ⊥)
+unfolding computing
+at_each_level = (
+  deeper _ _ 1 0 1 (1, refl) (omega arith) refl (omega arith)
+      (λ m. omega (arith, m.asked 1 ((1, refl), refl)), search arith) (search arith),
+  deeper _ _ 0x200 0 1 (2, refl) (omega arith) refl (omega arith)
+      (λ m. omega (arith, m.asked 0x200 ((2, refl), refl)), search arith) (search arith),
+  deeper _ _ 1 1 1 (1, refl) (omega arith) refl (omega arith)
+      (λ m. omega (arith, m.asked 1 ((1, refl), refl)), search arith) (search arith),
+  deeper _ _ 0x10100 2 1 (0, refl) (omega arith) refl (omega arith)
+      (λ m. omega (arith, m.asked 0x10100 ((0, refl), refl)), search arith) (search arith),
+  deeper _ _ 0x10100 3 1 (0, refl) (omega arith) refl (omega arith)
+      (λ m. omega (arith, m.asked 0x10100 ((0, refl), refl)), search arith) (search arith),
+)
+
+-- core 0 runs beside core 1
+abbrev both_on : List Record
+both_on = after (Enter 0x200 ∷ on_1 ∷ call 0x200 0xc4000003 0 0x40002000 5 ∷ Deliver 0 ∷ Deliver 1
+    ∷ Enter 1 ∷ Enter 0 ∷ [])
+
+-- core 1 had been off in life 1
+abbrev off_before_life_2 : List Record
+off_before_life_2 = run_on two
+    (says (after (Enter 0x200 ∷ [])) (off 0x203) (goes_down 0 1 1 1 (part 0 3 1 ∷ [])))
+    (system_reset 0x200 ∷ Deliver 1 ∷ Enter 0x200 ∷ on_1 ∷ Deliver 2 ∷ Enter 1 ∷ [])
+
+in_modes_and_lives :
+    -- neighbour_runs: core 1 asks for its cluster, in which core 0 runs
+    (NoDeeperThanAsked two (says (says both_on (suspend 1 0x01010032) (goes_down 2 1 1 1 (part 0 3 1
+    ∷ part 1 3 2 ∷ []))) (Deliver 2) (acked 2 Down 1 1 1 2 false)) → ⊥)
+    -- claimer_asks_itself: core 1 asks for itself alone: that core 0 is off asks for no cluster
+    × (NoDeeperThanAsked two (run_on two (says (after on_by_the_system) (suspend 1 0x00010002)
+    (goes_down 1 1 1 1 (part 0 3 1
+    ∷ part 1 3 1 ∷ []))) (Deliver 1 ∷ [])) → ⊥)
+    -- deeper_in_life_2: in life 2
+    × (NoDeeperThanAsked two (run_on two (says off_before_life_2 (suspend 1 0x00000001)
+    (goes_down 3 1 2 1 (part 0 3 1
+    ∷ []))) (Deliver 3 ∷ [])) → ⊥)
+    -- deeper_while_halting: in a life that is halting
+    × (NoDeeperThanAsked two (run_on two (says (after (core_1_on ++ system_off 0x200
+    ∷ [])) (suspend 1 0x00000001) (goes_down 2 1 1 1 (part 0 3 1 ∷ []))) (Deliver 2 ∷ [])) → ⊥)
+unfolding computing
+in_modes_and_lives = (
+  deeper _ _ 1 1 1 (1, refl) (omega arith) refl (omega arith)
+      (λ m. omega (arith, m.asked 0 ((0, refl), refl)), search arith) (search arith),
+  deeper _ _ 0 1 1 (0, refl) (omega arith) refl (omega arith)
+      (λ m. omega (arith, m.asked.0), search arith) (search arith),
+  deeper _ _ 1 0 2 (1, refl) (omega arith) refl (omega arith)
+      (λ m. omega (arith, m.asked 1 ((1, refl), refl)), search arith) (search arith),
+  deeper _ _ 1 0 1 (1, refl) (omega arith) refl (omega arith)
+      (λ m. omega (arith, m.asked 1 ((1, refl), refl)), search arith) (search arith),
 )
