@@ -47,8 +47,10 @@ tall_sleep = Enter 0 ∷ call 0 0xc4000003 0x100 0x40001000 1
     ∷ call 2 0xc4000001 0x03013333 0x40004000 2 ∷ call 0 0xc4000001 0x03013333 0x40000100 0 ∷ []
 
 settles : Gives (settling board)
+    -- the boot core enters, and nothing waits
+    (Settle [] (Enter 0 ∷ []) 0
     -- two_rounds: the system waits for the cluster, so it takes two rounds
-    (Settle both_sleep (Deliver 2 ∷ Take 1 ∷ Deliver 1 ∷ Take 2 ∷ Deliver 2 ∷ Take 3 ∷ []) 2
+    ∷ Settle both_sleep (Deliver 2 ∷ Take 1 ∷ Deliver 1 ∷ Take 2 ∷ Deliver 2 ∷ Take 3 ∷ []) 2
     -- three_rounds: the cluster of core 0 waits for core 1, and the system for the other cluster,
     -- which waits for core 3. So it takes three rounds, one for each level
     ∷ Settle all_sleep (Deliver 6 ∷ Take 3 ∷ Deliver 3 ∷ Take 4 ∷ Deliver 5 ∷ Take 5 ∷ Deliver 4
@@ -89,7 +91,8 @@ halts events = is_halting board (after board events)
 halting : Gives halts
     -- the system is off
     ((Enter 0 ∷ system_off 0 ∷ Deliver 0 ∷ []) ⇒ true
-    -- the second life has begun, after one that halted
+    -- the second life has begun, after one that halted, before and after its first entry
+    ∷ (Enter 0 ∷ system_reset 0 ∷ Deliver 0 ∷ []) ⇒ false
     ∷ (Enter 0 ∷ system_reset 0 ∷ Deliver 0 ∷ Enter 0 ∷ []) ⇒ false
     -- and it halts in the second life, by another core
     ∷ (on_in_life_2 ++ system_off 3 ∷ []) ⇒ true ∷ [])

@@ -7,7 +7,7 @@ use Rattle.psci_headline.specs.psci_world_spec.declared.event.Event.TheVariants.
 use Rattle.psci_headline.specs.psci_world_spec.declared.event.Event.TheVariants.{Wake}
 use Rattle.psci_headline.proofs.world_spec.Scripts.{acked, goes_down, off, part, resumes, sends}
 use Rattle.psci_headline.proofs.world_spec.Scripts.{stops, system_off, value}
-use Rattle.psci_platform_safe.specs.Safe.{NoneBelowSleeping, OneLiveClaim, StatesWereReal}
+use Rattle.psci_platform_safe.specs.Safe.{NoneBelowSleeping, OneLiveClaim, SafeOn, StatesWereReal}
 use Rattle.psci_platform_safe.proofs.Histories.{after, computing, core_1_off, core_1_on}
 use Rattle.psci_platform_safe.proofs.Histories.{on_by_the_system, on_in_life_2, says, state_of}
 use Rattle.psci_platform_safe.proofs.Histories.{suspend, tall, tall_after, tall_in_life_2, tall_on}
@@ -56,6 +56,11 @@ none_below_sleeping = (
   λ none. omega (arith, none 1 1 (1, refl) (omega arith) refl),
   λ none. omega (arith, none 1 1 (1, refl) (omega arith) refl),
 )
+
+-- and so the platform is not safe
+not_safe : SafeOn two (says (after (core_1_on ++ off 1 ∷ Deliver 1 ∷ [])) (Enter 1) resumes) → ⊥
+unfolding computing
+not_safe safe = none_below_sleeping.0 safe.powered
 
 -- a domain is claimed twice in one start
 one_live_claim :
