@@ -112,92 +112,117 @@ both P zeroth first zero h = zeroth
 both P zeroth first (suc zero) h = first
 both P zeroth first (suc (suc core)) h = absurd (omega (arith, h))
 
--- the last statuses after these calls
-are_last :
-    -- boot_core_is_on: the boot core has entered
-    AllLast board (boots_in 1 ∷ []) (seen (2, On) (0, Off))
-    -- target_is_pending: right after an accepted CPU_ON the caller has seen ON_PENDING of the target
-    × AllLast board (boots_in 1 ∷ on_1 ∷ []) (seen (2, On) (1, Pending))
-    -- target_is_on: and ON once it has entered
-    × AllLast board (boots_in 1 ∷ on_1 ∷ enters_1 ∷ []) (seen (2, On) (2, On))
-    -- on_in_life_2: the boot core is ON_PENDING at the start of each life
-    × AllLast board (boots_in 1 ∷ system_reset 1 ∷ boots_in 2 ∷ []) (seen (4, On) (0, Off))
-    -- on_in_life_3: in life 3
-    × AllLast board (boots_in 1 ∷ system_reset 1 ∷ boots_in 2 ∷ system_reset 2 ∷ boots_in 3 ∷ [])
-    (seen (6, On) (0, Off))
-    -- on_while_halting: core 1 calls in a life that is to end, and stops: it is said to be ON still
-    × AllLast board (boots_in 1 ∷ on_1 ∷ enters_1 ∷ system_off ∷ calls 1 0x84000000 0 acts.Stop None
-    ∷ []) (seen (2, On) (2, On))
-    -- pending_in_this_mode: in OS-initiated mode
-    × AllLast board (boots_in 1 ∷ calls 0 0x8400000f 1 returns_0 None ∷ on_1 ∷ []) (seen (2, On) (
-      1,
-      Pending,
-    ))
-    -- second_start: a core that parks is said to be ON until its Down was carried out
-    × AllLast board (boots_in 1 ∷ resets 2 ∷ []) (seen (2, On) (0, Off))
-    -- third_start: in its third start
-    × AllLast board (boots_in 1 ∷ resets 2 ∷ resets 3 ∷ []) (seen (2, On) (0, Off))
-    -- fourth_start: and in its fourth
-    × AllLast board (boots_in 1 ∷ resets 2 ∷ resets 3 ∷ resets 4 ∷ []) (seen (2, On) (0, Off))
-    -- on_in_extended: in the extended format
-    × AllLast extended (boots_in 1 ∷ on_1 ∷ []) (seen (2, On) (1, Pending))
-unfolding computing
-are_last = (
-  both _ ([], refl) ([], refl),
-  both _ ([], refl) ([], refl),
-  both _ ([], refl) ([], refl),
-  both _ ([], refl) ([], refl),
-  both _ ([], refl) ([], refl),
-  both _ ([], refl) ([], refl),
-  both _ ([], refl) ([], refl),
-  both _ ([], refl) ([], refl),
-  both _ ([], refl) ([], refl),
-  both _ ([], refl) ([], refl),
-  both _ ([], refl) ([], refl),
-)
+-- The first life ---------------------------------------------------------------------------------
 
--- and such as are not
-not_last :
-    -- boot_core_was_pending: the boot core was ON_PENDING before
-    (AllLast board (boots_in 1 ∷ []) (seen (1, Pending) (0, Off)) → ⊥)
-    -- target_was_off: the target was OFF
-    × (AllLast board (boots_in 1 ∷ on_1 ∷ []) (seen (2, On) (0, Off)) → ⊥)
-    -- target_was_pending: and ON_PENDING
-    × (AllLast board (boots_in 1 ∷ on_1 ∷ enters_1 ∷ []) (seen (2, On) (1, Pending)) → ⊥)
-    -- on_in_life_1: what was last in life 1
-    × (AllLast board (boots_in 1 ∷ system_reset 1 ∷ boots_in 2 ∷ []) (seen (2, On) (0, Off)) → ⊥)
-    -- on_in_the_last_life: and in life 2
-    × (AllLast board (boots_in 1 ∷ system_reset 1 ∷ boots_in 2 ∷ system_reset 2 ∷ boots_in 3 ∷ [])
-    (seen (4, On) (0, Off)) → ⊥)
-    -- pending_while_halting: in a life that is to end
-    × (AllLast board (boots_in 1 ∷ on_1 ∷ enters_1 ∷ system_off ∷ calls 1 0x84000000 0 acts.Stop
-    None ∷ []) (seen (2, On) (1, Pending)) → ⊥)
-    -- off_in_this_mode: in OS-initiated mode
-    × (AllLast board (boots_in 1 ∷ calls 0 0x8400000f 1 returns_0 None ∷ on_1 ∷ []) (seen (2, On)
-    (0, Off)) → ⊥)
-    -- second_start_seen_late: by the start before
-    × (AllLast board (boots_in 1 ∷ resets 2 ∷ []) (seen (1, Pending) (0, Off)) → ⊥)
-    -- third_start_seen_late: of a third start
-    × (AllLast board (boots_in 1 ∷ resets 2 ∷ resets 3 ∷ []) (seen (1, Pending) (0, Off)) → ⊥)
-    -- fourth_start_seen_late: and of a fourth
-    × (AllLast board (boots_in 1 ∷ resets 2 ∷ resets 3 ∷ resets 4 ∷ []) (seen (1, Pending) (0, Off))
-    → ⊥)
-    -- off_in_extended: in the extended format
-    × (AllLast extended (boots_in 1 ∷ on_1 ∷ []) (seen (2, On) (0, Off)) → ⊥)
+boot_core_is_on : AllLast board (boots_in 1 ∷ []) (seen (2, On) (0, Off))
 unfolding computing
-not_last = (
-  λ h. apart_by last (h 0 (omega arith)).1 refl,
-  λ h. apart_by last (h 1 (omega arith)).1 refl,
-  λ h. apart_by last (h 1 (omega arith)).1 refl,
-  λ h. apart_by last (h 0 (omega arith)).1 refl,
-  λ h. apart_by last (h 0 (omega arith)).1 refl,
-  λ h. apart_by last (h 1 (omega arith)).1 refl,
-  λ h. apart_by last (h 1 (omega arith)).1 refl,
-  λ h. apart_by last (h 0 (omega arith)).1 refl,
-  λ h. apart_by last (h 0 (omega arith)).1 refl,
-  λ h. apart_by last (h 0 (omega arith)).1 refl,
-  λ h. apart_by last (h 1 (omega arith)).1 refl,
-)
+boot_core_is_on = both _ ([], refl) ([], refl)
+
+boot_core_was_pending : AllLast board (boots_in 1 ∷ []) (seen (1, Pending) (0, Off)) → ⊥
+unfolding computing
+boot_core_was_pending h = apart_by last (h 0 (omega arith)).1 refl
+
+-- right after an accepted CPU_ON the caller has seen ON_PENDING of the target
+target_is_pending : AllLast board (boots_in 1 ∷ on_1 ∷ []) (seen (2, On) (1, Pending))
+unfolding computing
+target_is_pending = both _ ([], refl) ([], refl)
+
+target_was_off : AllLast board (boots_in 1 ∷ on_1 ∷ []) (seen (2, On) (0, Off)) → ⊥
+unfolding computing
+target_was_off h = apart_by last (h 1 (omega arith)).1 refl
+
+target_is_on : AllLast board (boots_in 1 ∷ on_1 ∷ enters_1 ∷ []) (seen (2, On) (2, On))
+unfolding computing
+target_is_on = both _ ([], refl) ([], refl)
+
+target_was_pending : AllLast board (boots_in 1 ∷ on_1 ∷ enters_1 ∷ [])
+    (seen (2, On) (1, Pending)) → ⊥
+unfolding computing
+target_was_pending h = apart_by last (h 1 (omega arith)).1 refl
 
 has_seen_pending : HasSeen (seen (2, On) (1, Pending)) 1 Pending
 has_seen_pending = (1, ([], refl))
+
+-- Later lives: at the start of each the boot core is ON_PENDING -----------------------------------
+
+on_in_life_2 : AllLast board (boots_in 1 ∷ system_reset 1 ∷ boots_in 2 ∷ []) (seen (4, On) (0, Off))
+unfolding computing
+on_in_life_2 = both _ ([], refl) ([], refl)
+
+on_in_life_1 : AllLast board (boots_in 1 ∷ system_reset 1 ∷ boots_in 2 ∷ [])
+    (seen (2, On) (0, Off)) → ⊥
+unfolding computing
+on_in_life_1 h = apart_by last (h 0 (omega arith)).1 refl
+
+on_in_life_3 : AllLast board (boots_in 1 ∷ system_reset 1 ∷ boots_in 2 ∷ system_reset 2
+    ∷ boots_in 3 ∷ []) (seen (6, On) (0, Off))
+unfolding computing
+on_in_life_3 = both _ ([], refl) ([], refl)
+
+on_in_the_last_life : AllLast board (boots_in 1 ∷ system_reset 1 ∷ boots_in 2 ∷ system_reset 2
+    ∷ boots_in 3 ∷ []) (seen (4, On) (0, Off)) → ⊥
+unfolding computing
+on_in_the_last_life h = apart_by last (h 0 (omega arith)).1 refl
+
+-- A life that is to end, and OS-initiated mode ---------------------------------------------------
+
+-- core 1 calls in a life that is to end, and stops without a word: it is said to be ON still
+on_while_halting : AllLast board (boots_in 1 ∷ on_1 ∷ enters_1 ∷ system_off
+    ∷ calls 1 0x84000000 0 acts.Stop None ∷ []) (seen (2, On) (2, On))
+unfolding computing
+on_while_halting = both _ ([], refl) ([], refl)
+
+pending_while_halting : AllLast board (boots_in 1 ∷ on_1 ∷ enters_1 ∷ system_off
+    ∷ calls 1 0x84000000 0 acts.Stop None ∷ []) (seen (2, On) (1, Pending)) → ⊥
+unfolding computing
+pending_while_halting h = apart_by last (h 1 (omega arith)).1 refl
+
+pending_in_this_mode : AllLast board
+    (boots_in 1 ∷ calls 0 0x8400000f 1 returns_0 None ∷ on_1 ∷ []) (seen (2, On) (1, Pending))
+unfolding computing
+pending_in_this_mode = both _ ([], refl) ([], refl)
+
+off_in_this_mode : AllLast board
+    (boots_in 1 ∷ calls 0 0x8400000f 1 returns_0 None ∷ on_1 ∷ []) (seen (2, On) (0, Off)) → ⊥
+unfolding computing
+off_in_this_mode h = apart_by last (h 1 (omega arith)).1 refl
+
+-- Later starts -----------------------------------------------------------------------------------
+
+-- a core that parks is said to be ON until its Down was carried out
+second_start : AllLast board (boots_in 1 ∷ resets 2 ∷ []) (seen (2, On) (0, Off))
+unfolding computing
+second_start = both _ ([], refl) ([], refl)
+
+second_start_seen_late : AllLast board (boots_in 1 ∷ resets 2 ∷ []) (seen (1, Pending) (0, Off)) → ⊥
+unfolding computing
+second_start_seen_late h = apart_by last (h 0 (omega arith)).1 refl
+
+third_start : AllLast board (boots_in 1 ∷ resets 2 ∷ resets 3 ∷ []) (seen (2, On) (0, Off))
+unfolding computing
+third_start = both _ ([], refl) ([], refl)
+
+third_start_seen_late : AllLast board (boots_in 1 ∷ resets 2 ∷ resets 3 ∷ [])
+    (seen (1, Pending) (0, Off)) → ⊥
+unfolding computing
+third_start_seen_late h = apart_by last (h 0 (omega arith)).1 refl
+
+fourth_start : AllLast board (boots_in 1 ∷ resets 2 ∷ resets 3 ∷ resets 4 ∷ [])
+    (seen (2, On) (0, Off))
+unfolding computing
+fourth_start = both _ ([], refl) ([], refl)
+
+fourth_start_seen_late : AllLast board (boots_in 1 ∷ resets 2 ∷ resets 3 ∷ resets 4 ∷ [])
+    (seen (1, Pending) (0, Off)) → ⊥
+unfolding computing
+fourth_start_seen_late h = apart_by last (h 0 (omega arith)).1 refl
+
+-- The extended format ----------------------------------------------------------------------------
+
+on_in_extended : AllLast extended (boots_in 1 ∷ on_1 ∷ []) (seen (2, On) (1, Pending))
+unfolding computing
+on_in_extended = both _ ([], refl) ([], refl)
+
+off_in_extended : AllLast extended (boots_in 1 ∷ on_1 ∷ []) (seen (2, On) (0, Off)) → ⊥
+unfolding computing
+off_in_extended h = apart_by last (h 1 (omega arith)).1 refl
