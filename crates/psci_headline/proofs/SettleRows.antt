@@ -46,11 +46,14 @@ tall_sleep = Enter 0 ∷ call 0 0xc4000003 0x100 0x40001000 1
     ∷ call 1 0xc4000001 0x03013333 0x40004000 1 ∷ call 3 0xc4000001 0x03013333 0x40004000 3
     ∷ call 2 0xc4000001 0x03013333 0x40004000 2 ∷ call 0 0xc4000001 0x03013333 0x40000100 0 ∷ []
 
+-- the boot core enters, and nothing waits
+settles_at_once : Gives (settling board) (Settle [] (Enter 0 ∷ []) 0 ∷ [])
+unfolding computing
+settles_at_once = refl
+
 settles : Gives (settling board)
-    -- the boot core enters, and nothing waits
-    (Settle [] (Enter 0 ∷ []) 0
     -- two_rounds: the system waits for the cluster, so it takes two rounds
-    ∷ Settle both_sleep (Deliver 2 ∷ Take 1 ∷ Deliver 1 ∷ Take 2 ∷ Deliver 2 ∷ Take 3 ∷ []) 2
+    (Settle both_sleep (Deliver 2 ∷ Take 1 ∷ Deliver 1 ∷ Take 2 ∷ Deliver 2 ∷ Take 3 ∷ []) 2
     -- three_rounds: the cluster of core 0 waits for core 1, and the system for the other cluster,
     -- which waits for core 3. So it takes three rounds, one for each level
     ∷ Settle all_sleep (Deliver 6 ∷ Take 3 ∷ Deliver 3 ∷ Take 4 ∷ Deliver 5 ∷ Take 5 ∷ Deliver 4
