@@ -1,49 +1,62 @@
--- Worked examples of lists of entries: in later lives and starts, in OS-initiated mode, in a life
--- that is to end, and with power state words in the extended format; and for each one that is not
--- legal.
-use Rattle.std.proofs.Common.{ℕ, List, [], ◌∷◌, Option, None, Some, pos, negsuc, false}
-use Rattle.std.proofs.Common.{refl, arith}
+-- Worked examples: lists of entries of runs that were safe at every moment, as computing says, and
+-- that are so legal: in each life and mode, by each start, of a life that is to end and in the
+-- extended format; and for each one that is not legal, and so that of no run. And what is said of
+-- events in a core's fourth start.
+use Rattle.std.proofs.Common.{ℕ, List, [], ◌∷◌, Option, None, Some, pos, negsuc, false, refl, ◌≡◌}
+use Rattle.std.proofs.Common.{true}
 use Rattle.psci_world_spec.specs.psci_board.Board.{BoardValue}
 use Rattle.psci_board.specs.psci_abi.declared.format.Format.TheVariants.{Extended}
 use Rattle.psci_world_spec.specs.psci_messages.declared.part.Part.{Part}
+use Rattle.psci_world_spec.specs.psci_fw_spec.declared.outcome.Act.{Act}
+use Rattle.psci_world_spec.specs.psci_fw_spec.declared.reply.FwReply.{FwReply}
+use Rattle.psci_world_spec.specs.psci_messages.declared.kind.Kind.{Kind}
+use Rattle.psci_world_spec.specs.psci_messages.declared.start.Start.{Start}
+use Rattle.psci_world_spec.specs.psci_messages.Message.{MessageValue}
+use Rattle.psci_world_spec.proofs.Scripts.{board, part, IsSaid, call}
+use Rattle.psci_audit.specs.Entries.{Entry, Asked, Controlled}
+use Rattle.psci_audit.specs.Legal.{IsLegal}
+use Rattle.psci_audit.specs.Told.{asked, controlled, IsListOfSafe, Tells}
+use Rattle.psci_audit.proofs.ListRows.{boots, delivers_3, enters, judging, on_3, number_in, resets}
+use Rattle.psci_audit.proofs.ListRows.{start, start_number, version, start_3}
+use Rattle.psci_examples.proofs.Apart.{apart_by}
+use Rattle.psci_world_spec.specs.declared.event.Event.{Event}
+use Rattle.psci_world_spec.specs.declared.event.Event.TheVariants.{Deliver, Enter, Reset}
+use Rattle.psci_world_spec.specs.Legal.{run_from}
+use Rattle.psci_world_spec.proofs.Runs.{stays_legal}
+use Rattle.psci_headline.specs.Claims.{claims, live_claims}
+use Rattle.psci_headline.specs.Hardware.{was_in_state}
+use Rattle.psci_headline.specs.Moments.{was_powered_down}
+use Rattle.psci_headline.specs.Openings.{openings, taken_up}
+use Rattle.psci_headline.specs.Test.{is_always_safe}
+use Rattle.psci_headline.proofs.AllTested.{always_tested}
+use Rattle.psci_audit.proofs.Only.{legal_list}
 use Rattle.psci_world_spec.specs.psci_ctl_spec.declared.call.CtlCall.TheVariants as asks
 use Rattle.psci_world_spec.specs.psci_ctl_spec.declared.delivery.Delivery.TheVariants as deliveries
 use Rattle.psci_world_spec.specs.psci_ctl_spec.declared.reply.CtlReply.TheVariants as replied
 use Rattle.psci_world_spec.specs.psci_fw_spec.declared.call.FwCall.TheVariants as calls
-use Rattle.psci_world_spec.specs.psci_fw_spec.declared.outcome.Act.{Act}
 use Rattle.psci_world_spec.specs.psci_fw_spec.declared.outcome.Act.TheVariants as acts
-use Rattle.psci_world_spec.specs.psci_fw_spec.declared.reply.FwReply.{FwReply}
 use Rattle.psci_world_spec.specs.psci_fw_spec.declared.reply.FwReply.TheVariants as replies
-use Rattle.psci_world_spec.specs.psci_messages.declared.kind.Kind.{Kind}
 use Rattle.psci_world_spec.specs.psci_messages.declared.kind.Kind.TheVariants as kinds
 use Rattle.psci_world_spec.specs.psci_messages.declared.start.Cause.TheVariants as causes
-use Rattle.psci_world_spec.specs.psci_messages.declared.start.Start.{Start}
-use Rattle.psci_world_spec.specs.psci_messages.Message.{MessageValue}
-use Rattle.psci_world_spec.proofs.Scripts.{board, part}
-use Rattle.psci_audit.specs.Entries.{Entry, Asked, Controlled}
-use Rattle.psci_audit.specs.Legal.{IsLegal}
-use Rattle.psci_audit.specs.Told.{asked, controlled}
-use Rattle.psci_audit.proofs.ListRows.{boots, delivers_3, enters, judging, on_3}
-use Rattle.psci_audit.proofs.ListRows.{number_in, resets, start, start_number, version}
-use Rattle.psci_examples.proofs.Apart.{apart_by}
+use Rattle.psci_world_spec.proofs.Scripts as scripts
 
 -- a core calls a function with one argument, stops, and sends a message or none
-abbrev pub stops : ℕ → ℕ → ℕ → Option MessageValue → Entry
+abbrev stops : ℕ → ℕ → ℕ → Option MessageValue → Entry
 stops c x0 x1 m = Asked (asked c (calls.Smc (record { x0 = x0; x1 = x1; x2 = 0; x3 = 0 }))
     (replies.Out (record { act = acts.Stop; message = m })))
 
 -- the same returns a code, 0 or more
-abbrev pub returns : ℕ → ℕ → ℕ → ℕ → Entry
+abbrev returns : ℕ → ℕ → ℕ → ℕ → Entry
 returns c x0 x1 code = Asked (asked c (calls.Smc (record { x0 = x0; x1 = x1; x2 = 0; x3 = 0 }))
     (replies.Out (record { act = acts.Return (record { 0 = pos code }); message = None })))
 
 -- and one below 0, by its absolute value less 1
-abbrev pub refused : ℕ → ℕ → ℕ → ℕ → Entry
+abbrev refused : ℕ → ℕ → ℕ → ℕ → Entry
 refused c x0 x1 code = Asked (asked c (calls.Smc (record { x0 = x0; x1 = x1; x2 = 0; x3 = 0 }))
     (replies.Out (record { act = acts.Return (record { 0 = negsuc code }); message = None })))
 
 -- a message of core 0 in its first start of a life
-abbrev pub message : Kind → ℕ → List Part → MessageValue
+abbrev message : Kind → ℕ → List Part → MessageValue
 message kind life parts = record {
   kind = kind;
   core = record { number = 0 };
@@ -61,13 +74,11 @@ abbrev stop_in : FwReply → ℕ
 stop_in (replies.Out o) = stopped o.act
 stop_in reply = 0
 
--- Lives -----------------------------------------------------------------------------------------
-
 -- core 0 asks for a reset of the system, which is carried out
-abbrev pub system_reset : ℕ → Entry
+abbrev system_reset : ℕ → Entry
 system_reset life = stops 0 0x84000009 0 (Some (message kinds.Reset life []))
 
-abbrev pub ends : ℕ → Entry
+abbrev ends : ℕ → Entry
 ends life = Controlled (controlled (asks.Deliver (message kinds.Reset life []))
     (replied.Delivery (deliveries.Applied (record {
       kind = kinds.Reset;
@@ -79,35 +90,28 @@ ends life = Controlled (controlled (asks.Deliver (message kinds.Reset life []))
     }))))
 
 -- the boot core enters in this life
-abbrev pub boots_in : ℕ → Entry
+abbrev boots_in : ℕ → Entry
 boots_in life = enters 0 (record (start 1 causes.Boot) { life = life }) 0x40000000 0
 
-boots_is_legal : IsLegal board (boots ∷ [])
-unfolding judging
-boots_is_legal = ((omega arith, refl, refl, tt, refl), tt)
+-- core 0 turns the system off; core 3 goes on until it calls, and stops without a message
+abbrev system_off : Entry
+system_off = stops 0 0x84000008 0 (Some (message kinds.Off 1 []))
 
-in_life_2 : IsLegal board (boots_in 2 ∷ ends 1 ∷ system_reset 1 ∷ boots ∷ [])
-unfolding judging
-in_life_2 = (
-  (omega arith, refl, refl, tt, refl),
-  (((0, refl), refl), ((omega arith, refl, tt, refl), boots_is_legal)),
-)
+abbrev on : List Entry
+on = enters 3 (start 1 causes.On) 0x40001000 7 ∷ delivers_3 ∷ on_3 ∷ boots ∷ []
 
-pub wrong_value_in_life_2 : IsLegal board
+abbrev extended : BoardValue
+extended = record board { format = Extended }
+
+-- Not legal -------------------------------------------------------------------------------------
+
+wrong_value_in_life_2 : IsLegal board
     (version 0 1 ∷ boots_in 2 ∷ ends 1 ∷ system_reset 1 ∷ boots ∷ []) → ⊥
 unfolding judging
 wrong_value_in_life_2 is = apart_by number_in is.0.3 refl
 
-in_life_3 : IsLegal board (boots_in 3 ∷ ends 2 ∷ system_reset 2 ∷ boots_in 2 ∷ ends 1
-    ∷ system_reset 1 ∷ boots ∷ [])
-unfolding judging
-in_life_3 = (
-  (omega arith, refl, refl, tt, refl),
-  (((1, refl), refl), ((omega arith, refl, tt, refl), in_life_2)),
-)
-
 -- an entry by the life before
-pub by_the_last_life : IsLegal board (boots_in 2 ∷ ends 2 ∷ system_reset 2 ∷ boots_in 2 ∷ ends 1
+by_the_last_life : IsLegal board (boots_in 2 ∷ ends 2 ∷ system_reset 2 ∷ boots_in 2 ∷ ends 1
     ∷ system_reset 1 ∷ boots ∷ []) → ⊥
 unfolding judging
 by_the_last_life is = apart_by life_number is.0.2 refl
@@ -116,73 +120,135 @@ by_the_last_life is = apart_by life_number is.0.2 refl
     life_number None = 0
     life_number (Some s) = s.life
 
--- A life that is to end -------------------------------------------------------------------------
-
--- core 0 turns the system off; core 3 goes on until it calls, and stops without a message
-abbrev pub system_off : Entry
-system_off = stops 0 0x84000008 0 (Some (message kinds.Off 1 []))
-
-abbrev pub on : List Entry
-on = enters 3 (start 1 causes.On) 0x40001000 7 ∷ delivers_3 ∷ on_3 ∷ boots ∷ []
-
-on_is_legal : IsLegal board on
-unfolding judging
-on_is_legal = (
-  (omega arith, refl, refl, tt, refl),
-  (((0, refl), refl), ((omega arith, refl, tt, refl), boots_is_legal)),
-)
-
-silent_while_halting : IsLegal board (stops 3 0x84000000 0 None ∷ system_off ∷ on)
-unfolding judging
-silent_while_halting = ((omega arith, refl, tt, refl), ((omega arith, refl, tt, refl), on_is_legal))
-
-pub answered_while_halting : IsLegal board (version 3 65537 ∷ system_off ∷ on) → ⊥
+answered_while_halting : IsLegal board (version 3 65537 ∷ system_off ∷ on) → ⊥
 unfolding judging
 answered_while_halting is = apart_by stop_in is.0.3 refl
 
--- OS-initiated mode -----------------------------------------------------------------------------
-
--- core 0 asks the whole system down while core 3 runs, which is denied in this mode
-denied_in_this_mode : IsLegal board
-    (refused 0 0xc4000001 0x02000222 2 ∷ returns 0 0x8400000f 1 0 ∷ on)
-unfolding judging
-denied_in_this_mode =
-    ((omega arith, refl, tt, refl), ((omega arith, refl, tt, refl), on_is_legal))
-
 -- and is not answered as in the other mode
-pub stops_in_this_mode : IsLegal board
+stops_in_this_mode : IsLegal board
     (stops 0 0xc4000001 0x02000222 (Some (message kinds.Down 1 (part 0 2 1 ∷ part 1 2 1 ∷ [])))
     ∷ returns 0 0x8400000f 1 0 ∷ on) → ⊥
 unfolding judging
 stops_in_this_mode is = apart_by stop_in is.0.3 refl
 
--- Later starts ----------------------------------------------------------------------------------
-
-fourth_start : IsLegal board (resets 0 4 ∷ resets 0 3 ∷ resets 0 2 ∷ boots ∷ [])
-unfolding judging
-fourth_start = ((omega arith, refl), ((omega arith, refl), ((omega arith, refl), boots_is_legal)))
-
-pub by_the_third : IsLegal board (enters 0 (start 3 causes.Reset) 0x40000000 0
+by_the_third : IsLegal board (enters 0 (start 3 causes.Reset) 0x40000000 0
     ∷ resets 0 4 ∷ resets 0 3 ∷ resets 0 2 ∷ boots ∷ []) → ⊥
 unfolding judging
 by_the_third is = apart_by start_number is.0.2 refl
 
--- The extended format ---------------------------------------------------------------------------
-
-abbrev pub extended : BoardValue
-extended = record board { format = Extended }
-
--- retention of core 0 and its cluster
-retention_in_extended : IsLegal extended
-    (stops 0 0xc4000001 0x22 (Some (message kinds.Down 1 (part 0 2 1 ∷ part 1 2 1 ∷ []))) ∷ boots
-    ∷ [])
-unfolding judging
-retention_in_extended =
-    ((omega arith, refl, tt, refl), ((omega arith, refl, refl, tt, refl), tt))
-
 -- a word of the other format is refused
-pub original_in_extended : IsLegal extended
+original_in_extended : IsLegal extended
     (stops 0 0xc4000001 0x01000022 (Some (message kinds.Down 1 (part 0 2 1 ∷ part 1 2 1 ∷ [])))
     ∷ boots ∷ []) → ⊥
 unfolding judging
 original_in_extended is = apart_by stop_in is.0.3 refl
+
+-- Safe, and so legal -----------------------------------------------------------------------------
+
+-- what an example unfolds to compute what a run tells, and that it is safe
+unfoldable checking : Unit {0}
+unfolding scripts.computing claims live_claims was_powered_down openings taken_up was_in_state
+checking = tt
+
+-- the list that these events tell, where each moment passes the tests
+safe_list : (b : BoardValue) (events : List Event) (entries : List Entry)
+    → Tells b (run_from b [] events) entries
+    → is_always_safe b (run_from b [] events) ≡ true → IsListOfSafe b entries
+safe_list b events entries tells safe = record {
+  past = run_from b [] events;
+  legal = stays_legal b [] events tt;
+  tells = tells;
+  safe = (always_tested b (run_from b [] events)).0 safe;
+}
+
+-- a list that is not legal is that of no run
+no_list : (b : BoardValue) (entries : List Entry) → (IsLegal b entries → ⊥)
+    → IsListOfSafe b entries → ⊥
+no_list b entries wrong is =
+    wrong (legal_list b entries (record { past = is.past; legal = is.legal; tells = is.tells }))
+
+-- what tells that the boot core entered, that core 3 was asked on and entered, and two lives
+boots_is_told : Tells board (run_from board [] (Enter 0 ∷ [])) (boots ∷ [])
+unfolding checking
+boots_is_told = ((start 1 causes.Boot, refl, refl), tt)
+
+on_is_told : Tells board (run_from board [] (Enter 0 ∷ scripts.on_3 ∷ Deliver 0 ∷ Enter 3 ∷ [])) on
+unfolding checking
+on_is_told = ((start 1 causes.On, refl, refl), ((start_3, refl, refl), (refl, boots_is_told)))
+
+life_2_is_told : Tells board
+    (run_from board [] (Enter 0 ∷ scripts.system_reset 0 ∷ Deliver 0 ∷ Enter 0 ∷ []))
+    (boots_in 2 ∷ ends 1 ∷ system_reset 1 ∷ boots ∷ [])
+unfolding checking
+life_2_is_told = (
+  (record (start 1 causes.Boot) { life = 2 }, refl, refl),
+  ((message kinds.Reset 1 [], refl, refl), (refl, boots_is_told)),
+)
+
+boot_core_calls : IsListOfSafe board (version 0 65537 ∷ boots ∷ [])
+unfolding checking
+boot_core_calls = safe_list board (Enter 0 ∷ scripts.version 0 ∷ []) _
+    (refl, boots_is_told) refl
+
+-- core 3 was asked on, and both call
+both_call : IsListOfSafe board (version 0 65537 ∷ version 3 65537 ∷ on)
+unfolding checking
+both_call = safe_list board
+    (Enter 0 ∷ scripts.on_3 ∷ Deliver 0 ∷ Enter 3 ∷ scripts.version 3 ∷ scripts.version 0 ∷ []) _
+    (refl, (refl, on_is_told)) refl
+
+in_life_2 : IsListOfSafe board (boots_in 2 ∷ ends 1 ∷ system_reset 1 ∷ boots ∷ [])
+unfolding checking
+in_life_2 = safe_list board (Enter 0 ∷ scripts.system_reset 0 ∷ Deliver 0 ∷ Enter 0 ∷ []) _
+    life_2_is_told refl
+
+in_life_3 : IsListOfSafe board (boots_in 3 ∷ ends 2 ∷ system_reset 2 ∷ boots_in 2 ∷ ends 1
+    ∷ system_reset 1 ∷ boots ∷ [])
+unfolding checking
+in_life_3 = safe_list board (Enter 0 ∷ scripts.system_reset 0 ∷ Deliver 0 ∷ Enter 0
+    ∷ scripts.system_reset 0 ∷ Deliver 1 ∷ Enter 0 ∷ []) _ (
+      (record (start 1 causes.Boot) { life = 3 }, refl, refl),
+      ((message kinds.Reset 2 [], refl, refl), (refl, life_2_is_told)),
+    ) refl
+
+silence_told : IsListOfSafe board (stops 3 0x84000000 0 None ∷ system_off ∷ on)
+unfolding checking
+silence_told = safe_list board (Enter 0 ∷ scripts.on_3 ∷ Deliver 0 ∷ Enter 3
+    ∷ scripts.system_off 0 ∷ scripts.version 3 ∷ []) _ (refl, (refl, on_is_told)) refl
+
+denial_told : IsListOfSafe board
+    (refused 0 0xc4000001 0x02000222 2 ∷ returns 0 0x8400000f 1 0 ∷ on)
+unfolding checking
+denial_told = safe_list board (Enter 0 ∷ scripts.on_3 ∷ Deliver 0 ∷ Enter 3
+    ∷ call 0 0x8400000f 1 0 0 ∷ call 0 0xc4000001 0x02000222 0 0 ∷ []) _
+    (refl, (refl, on_is_told)) refl
+
+second_start_told : IsListOfSafe board (resets 0 2 ∷ boots ∷ [])
+unfolding checking
+second_start_told = safe_list board (Enter 0 ∷ Reset 0 ∷ []) _
+    (refl, boots_is_told) refl
+
+third_start_told : IsListOfSafe board (resets 0 3 ∷ resets 0 2 ∷ boots ∷ [])
+unfolding checking
+third_start_told = safe_list board (Enter 0 ∷ Reset 0 ∷ Reset 0 ∷ []) _
+    (refl, (refl, boots_is_told)) refl
+
+fourth_start_told : IsListOfSafe board (resets 0 4 ∷ resets 0 3 ∷ resets 0 2 ∷ boots ∷ [])
+unfolding checking
+fourth_start_told = safe_list board (Enter 0 ∷ Reset 0 ∷ Reset 0 ∷ Reset 0 ∷ []) _
+    (refl, (refl, (refl, boots_is_told))) refl
+
+retention_told_in_extended : IsListOfSafe extended
+    (stops 0 0xc4000001 0x22 (Some (message kinds.Down 1 (part 0 2 1 ∷ part 1 2 1 ∷ []))) ∷ boots
+    ∷ [])
+unfolding checking
+retention_told_in_extended = safe_list extended (Enter 0 ∷ call 0 0xc4000001 0x22 0 0 ∷ []) _
+    (refl, ((start 1 causes.Boot, refl, refl), tt)) refl
+
+-- core 0 was reset three times before it enters again: it has no opening, and parks
+said_in_start_4 : IsSaid board (Enter 0 ∷ Reset 0 ∷ Reset 0 ∷ Reset 0 ∷ Enter 0 ∷ []) (
+    scripts.enters 0x40000000 0 ∷ scripts.started 1 2 causes.Reset
+    ∷ scripts.started 1 3 causes.Reset ∷ scripts.started 1 4 causes.Reset
+    ∷ scripts.goes_down 0 0 1 4 (part 0 3 4 ∷ part 1 3 4 ∷ part 2 3 4 ∷ []) ∷ [])
+unfolding scripts.computing
+said_in_start_4 = refl

@@ -1,15 +1,4 @@
 mod Apart
 mod AuditRows
-mod AuditSafeRows
-mod CallerRows
-mod DeviceRows
-mod DomainRows
-mod FirmwareRows
-mod FramePairRows
-mod LinesRows
-mod MessageRows
 mod OwnCallRows
 mod ReplayRows
-mod StateTreeRows
-mod TextRows
-mod TreeRows

@@ -1,11 +1,8 @@
 pub mod Arriving
-mod BesideRows
-pub mod BrokenRows
+mod BrokenRows
 pub mod Calling
 pub mod Calls
-mod CarriedOutRows
 pub mod Changing
-pub mod ClaimRows
 pub mod Claiming
 pub mod Claims
 pub mod Confirming
@@ -24,13 +21,11 @@ pub mod Numberings
 pub mod Parts
 pub mod Passing
 pub mod Refusing
-pub mod RenumberedRows
+mod RenumberedRows
 pub mod Sending
 pub mod Started
 pub mod StoppingBy
 pub mod Sums
-mod SwapRows
 pub mod Twins
-pub mod ValueRows
 pub mod Words
 pub use Rattle.psci_fw_spec.proofs as fw_spec

@@ -1,56 +1,90 @@
--- Worked examples of boards at height 3, of messages, replies, calls and values of the other
--- numbers, in life 2, and of what is no renumbering and no such call.
-use Rattle.std.proofs.Common.{◌≡◌, ◌==◌, ℕ, zero, suc, true, false, [], ◌∷◌, None, Some}
-use Rattle.std.proofs.Common.{if◌then◌else◌, refl, arith, inl, inr, ◌&&◌, ◌||◌, Option, map}
+-- Worked examples of renumberings: two cores of a cluster are swapped, or two clusters with as many
+-- cores. Values of a halting life 2 in OS-initiated mode, messages, calls, replies and histories of
+-- the other numbers; and what is none of these.
+use Rattle.std.proofs.Common.{◌≡◌, ◌==◌, ◌+◌, ◌*◌, ◌&&◌, ◌||◌, ℕ, zero, suc, true, false, List, []}
+use Rattle.std.proofs.Common.{◌∷◌, Option, None, Some, if◌then◌else◌, map, refl, arith, inl, inr}
 use Rattle.psci_abi.specs.declared.registers.Regs.{Regs}
+use Rattle.psci_abi.specs.declared.request.Request.{Request}
 use Rattle.psci_abi.specs.declared.request.Request.TheVariants.{AffinityInfo, CpuOff, CpuOn}
-use Rattle.psci_abi.specs.declared.request.Request.TheVariants.{SetSuspendMode, Version}
-use Rattle.psci_board.specs.Board.{BoardValue, core_of, up}
-use Rattle.psci_messages.specs.Message.{MessageValue}
+use Rattle.psci_abi.specs.declared.request.Request.TheVariants.{NodeHwState, SetSuspendMode}
+use Rattle.psci_abi.specs.declared.request.Request.TheVariants.{Version}
+use Rattle.psci_board.specs.Board.{BoardValue, core_of, node_of, up}
+use Rattle.psci_messages.specs.Message.{AckValue, MessageValue}
 use Rattle.psci_messages.specs.Slots.{OfCore, OfSystem, Slot}
-use Rattle.psci_messages.specs.declared.taken.Taken.TheVariants.{Old, Used}
+use Rattle.psci_messages.specs.declared.kind.Kind.TheVariants.{Down, Off}
+use Rattle.psci_messages.specs.declared.start.Cause.TheVariants.{Wake}
+use Rattle.psci_messages.specs.declared.start.Start as starts
+use Rattle.psci_messages.specs.declared.taken.Taken.TheVariants.{Used}
+use Rattle.psci_fw_spec.specs.Exchange.{FwExchange}
+use Rattle.psci_fw_spec.specs.Phases as phases
+use Rattle.psci_fw_spec.specs.Values.{Values}
 use Rattle.psci_fw_spec.specs.declared.call.FwCall.TheVariants.{Enter, Smc, Take}
-use Rattle.psci_fw_spec.specs.declared.fault.FwFault.TheVariants.{OldStart}
+use Rattle.psci_fw_spec.specs.declared.fault.FwFault.TheVariants.{NotRunning, OldStart}
+use Rattle.psci_fw_spec.specs.declared.mode.SuspendMode.TheVariants.{OsInitiated}
+use Rattle.psci_fw_spec.specs.declared.outcome.Act.TheVariants as acts
+use Rattle.psci_fw_spec.specs.declared.reply.FwReply.{FwReply}
 use Rattle.psci_fw_spec.specs.declared.reply.FwReply.TheVariants.{Fault, Out, Taken}
-use Rattle.psci_fw_laws.specs.Renumbered.{AreSiblings, AreTwins, AsksBy, CallsBy, IsRenumbering}
-use Rattle.psci_fw_laws.specs.Renumbered.{SparesBoot, acknowledgement_by, message_by, node_by}
-use Rattle.psci_fw_laws.specs.Renumbered.{outcome_by, reply_by, slot_by, swap_clusters, swap_cores}
+use Rattle.psci_fw_spec.specs.declared.status.Status.TheVariants as statuses
+use Rattle.psci_fw_laws.specs.Renumbered.{AreSiblings, AreTwins, AsksBy, CallsBy, HappenedBy}
+use Rattle.psci_fw_laws.specs.Renumbered.{IsRenumbering, SparesBoot, acknowledgement_by, message_by}
+use Rattle.psci_fw_laws.specs.Renumbered.{node_by, reply_by, slot_by, swap_clusters, swap_cores}
 use Rattle.psci_fw_laws.specs.Renumbered.{values_by}
 use Rattle.psci_abi.proofs.Tables.{◌⇒◌, Gives}
-use Rattle.psci_fw_spec.specs.declared.reply.FwReply.{FwReply}
-use Rattle.psci_fw_spec.specs.declared.outcome.Outcome.{Outcome}
-use Rattle.psci_fw_spec.specs.declared.outcome.Act.{Act}
-use Rattle.psci_fw_laws.proofs.SwapRows.{ack, clusters, kept, one_level, start, two_levels}
-use Rattle.psci_fw_spec.specs.declared.mode.SuspendMode.TheVariants.{OsInitiated}
-use Rattle.psci_fw_spec.specs.Values.{Values}
-use Rattle.psci_messages.specs.declared.kind.Kind.TheVariants as kinds
-use Rattle.psci_fw_spec.specs.declared.outcome.Act.TheVariants as acts
-use Rattle.psci_fw_spec.specs.declared.status.Status.TheVariants as statuses
-use Rattle.psci_fw_spec.specs.Phases as phases
+use Rattle.psci_fw_laws.proofs.Calls.{board, message, part}
 
 -- Boards ------------------------------------------------------------------------------------------
 
+-- cores 0 to 2 below the system
+abbrev one_level : BoardValue
+one_level = record board { levels = (3 ∷ []) ∷ [] }
+
+-- core 0 in a cluster by itself, cores 1 to 3 in another
+abbrev two_levels : BoardValue
+two_levels = record board { levels = (1 ∷ 3 ∷ []) ∷ (2 ∷ []) ∷ [] }
+
+-- cores 0 and 1, cores 2 and 3, and core 4 by itself
+abbrev clusters : BoardValue
+clusters = record board { levels = (2 ∷ 2 ∷ 1 ∷ []) ∷ (3 ∷ []) ∷ [] }
+
 -- two groups of two clusters of one core
 abbrev tall : BoardValue
-tall = record one_level { levels = (1 ∷ 1 ∷ 1 ∷ 1 ∷ []) ∷ (2 ∷ 2 ∷ []) ∷ (2 ∷ []) ∷ [] }
+tall = record board { levels = (1 ∷ 1 ∷ 1 ∷ 1 ∷ []) ∷ (2 ∷ 2 ∷ []) ∷ (2 ∷ []) ∷ [] }
 
-twins_in_a_group : AreTwins tall 2 3
-twins_in_a_group = record { first = omega arith; second = omega arith; cores = refl; parent = refl }
+siblings : AreSiblings one_level 1 2 × AreSiblings two_levels 1 3
+unfolding up
+siblings = omega arith
 
--- clusters of two groups are none, nor are a cluster and a core that the board does not have
-no_twins : (AreTwins tall 1 2 → ⊥) × (AreTwins clusters 3 0 → ⊥) × (AreTwins clusters 0 3 → ⊥)
-no_twins = search arith
-
-no_siblings : (AreSiblings one_level 3 1 → ⊥) × (AreSiblings one_level 1 3 → ⊥)
+-- cores of two clusters are none, nor is one that the board does not have
+no_siblings : (AreSiblings two_levels 0 1 → ⊥) × (AreSiblings one_level 3 1 → ⊥)
+    × (AreSiblings one_level 1 3 → ⊥)
+unfolding up
 no_siblings = search arith
 
--- groups and the system stay, and so do cores and clusters of the other group
-places_in_groups : Gives (λ (at : ℕ × ℕ). swap_clusters tall 2 3 at.0 at.1)
-    ((2, 0) ⇒ 0 ∷ (2, 1) ⇒ 1 ∷ (2, 2) ⇒ 2 ∷ (2, 3) ⇒ 3
-    ∷ (0, 0) ⇒ 0 ∷ (0, 1) ⇒ 1 ∷ (0, 2) ⇒ 3 ∷ (0, 3) ⇒ 2 ∷ [])
-places_in_groups = refl
+twins : AreTwins clusters 0 1 × AreTwins tall 2 3
+twins = (
+  record { first = omega arith; second = omega arith; cores = refl; parent = refl },
+  record { first = omega arith; second = omega arith; cores = refl; parent = refl },
+)
+
+-- clusters of two groups are none, nor is one with fewer cores, or that the board does not have
+no_twins : (AreTwins tall 1 2 → ⊥) × (AreTwins clusters 1 2 → ⊥) × (AreTwins clusters 3 0 → ⊥)
+    × (AreTwins clusters 0 3 → ⊥)
+no_twins = search arith
 
 -- Renumberings ------------------------------------------------------------------------------------
+
+-- the places of a level
+places : Gives (λ (x : (ℕ → ℕ → ℕ) × ℕ). map (x.0 x.1) (0 ∷ 1 ∷ 2 ∷ 3 ∷ 4 ∷ []))
+    -- two cores have each other's number, and clusters stay
+    ((swap_cores 1 3, 0) ⇒ (0 ∷ 3 ∷ 2 ∷ 1 ∷ 4 ∷ [])
+    ∷ (swap_cores 1 3, 1) ⇒ (0 ∷ 1 ∷ 2 ∷ 3 ∷ 4 ∷ [])
+    -- each core of a cluster has the number of the one at the same place in the other cluster, and
+    -- groups stay
+    ∷ (swap_clusters clusters 0 1, 0) ⇒ (2 ∷ 3 ∷ 0 ∷ 1 ∷ 4 ∷ [])
+    ∷ (swap_clusters clusters 0 1, 1) ⇒ (1 ∷ 0 ∷ 2 ∷ 3 ∷ 4 ∷ [])
+    ∷ (swap_clusters tall 2 3, 0) ⇒ (0 ∷ 1 ∷ 3 ∷ 2 ∷ 4 ∷ [])
+    ∷ (swap_clusters tall 2 3, 2) ⇒ (0 ∷ 1 ∷ 2 ∷ 3 ∷ 4 ∷ []) ∷ [])
+places = refl
 
 -- three cores in turn are not their own inverse
 abbrev in_turn : ℕ → ℕ → ℕ
@@ -58,9 +92,9 @@ in_turn zero c = if c == 0 then 1 else (if c == 1 then 2 else (if c == 2 then 0 
 in_turn (suc level) place = place
 
 no_renumberings : (IsRenumbering one_level in_turn → ⊥)
-    -- a core becomes one that the board does not have
+    -- a core becomes one that the board does not have; two cores are swapped, and not their
+    -- clusters
     × (IsRenumbering one_level (swap_cores 2 3) → ⊥)
-    -- two cores of two clusters are swapped, and the clusters are not
     × (IsRenumbering two_levels (swap_cores 0 1) → ⊥)
 unfolding up
 no_renumberings = (
@@ -69,32 +103,28 @@ no_renumberings = (
   λ is. omega (arith, is.above 1 0),
 )
 
--- Messages and replies ----------------------------------------------------------------------------
+-- Messages, calls and replies ---------------------------------------------------------------------
 
 -- two cores of a cluster are swapped
-abbrev pub s : ℕ → ℕ → ℕ
+abbrev s : ℕ → ℕ → ℕ
 s = swap_cores 1 3
 
--- a Down of the core and its cluster in life 2
-abbrev pub down : ℕ → MessageValue
-down c = record {
-  kind = kinds.Down;
+abbrev down : ℕ → MessageValue
+down c = message Down c 2 5 (part 0 3 5 ∷ part 1 2 9 ∷ [])
+
+abbrev ack : ℕ → AckValue
+ack c = record {
+  kind = Down;
   core = record { number = c };
   life = 2;
   number = 5;
-  parts = record { level = 0; depth = 3; generation = 5 }
-      ∷ record { level = 1; depth = 2; generation = 9 } ∷ [];
+  applied = 1;
+  stale = true;
 }
 
--- the system goes off, by this core
-abbrev pub system_off : ℕ → MessageValue
-system_off c = record {
-  kind = kinds.Off;
-  core = record { number = c };
-  life = 2;
-  number = 6;
-  parts = [];
-}
+messages_moved : Gives (message_by s)
+    (down 3 ⇒ down 1 ∷ message Off 1 2 6 [] ⇒ message Off 3 2 6 [] ∷ down 2 ⇒ down 2 ∷ [])
+messages_moved = refl
 
 nodes_moved : Gives (node_by (swap_clusters clusters 0 1))
     (record { level = 0; place = 3 } ⇒ record { level = 0; place = 1 }
@@ -102,39 +132,29 @@ nodes_moved : Gives (node_by (swap_clusters clusters 0 1))
     ∷ record { level = 2; place = 0 } ⇒ record { level = 2; place = 0 } ∷ [])
 nodes_moved = refl
 
-messages_moved : Gives (message_by s)
-    (down 3 ⇒ down 1 ∷ system_off 1 ⇒ system_off 3 ∷ down 2 ⇒ down 2 ∷ [])
-messages_moved = refl
-
 acknowledgement_moved : acknowledgement_by s (ack 3) ≡ ack 1
 acknowledgement_moved = refl
 
-each_slot : Gives (slot_by (swap_clusters clusters 0 1))
-    (OfCore 0 ⇒ OfCore 2 ∷ OfCore 3 ⇒ OfCore 1 ∷ OfCore 4 ⇒ OfCore 4 ∷ OfSystem ⇒ OfSystem ∷ [])
+each_slot : Gives (slot_by s) (OfCore 1 ⇒ OfCore 3 ∷ OfCore 2 ⇒ OfCore 2 ∷ OfSystem ⇒ OfSystem ∷ [])
 each_slot = refl
 
+-- addresses and contexts are no numbers of cores
 abbrev stop : ℕ → FwReply
 stop c = Out (record { act = acts.Stop; message = Some (down c) })
 
+abbrev entry : FwReply
+entry = Out (record { act = acts.Enter 1 3; message = None })
+
 replies_moved : Gives (reply_by s)
-    (stop 1 ⇒ stop 3
-    ∷ Taken Used ⇒ Taken Used
-    ∷ Taken Old ⇒ Taken Old
-    ∷ Fault OldStart ⇒ Fault OldStart ∷ [])
+    (stop 1 ⇒ stop 3 ∷ entry ⇒ entry ∷ Taken Used ⇒ Taken Used ∷ Fault OldStart ⇒ Fault OldStart
+    ∷ [])
 replies_moved = refl
-
--- addresses and contexts are no numbers of cores
-abbrev silent : Act → Outcome
-silent act = record { act = act; message = None }
-
-outcomes_stay : Gives (λ (act : Act). outcome_by s (silent act))
-    (acts.Enter 1 3 ⇒ silent (acts.Enter 1 3) ∷ acts.Resume ⇒ silent acts.Resume ∷ [])
-outcomes_stay = refl
-
--- Calls -------------------------------------------------------------------------------------------
 
 abbrev registers : ℕ → ℕ → Regs
 registers word target = record { x0 = word; x1 = target; x2 = 0x40001000; x3 = 7 }
+
+abbrev start : ℕ → starts.Start
+start number = record { life = 2; number = number; cause = Wake }
 
 calls_moved :
     -- CPU_ON of core 1 asks what CPU_ON of core 3 asked
@@ -150,18 +170,41 @@ other_calls : (CallsBy two_levels s (Take (ack 3)) (Take (ack 3)) → ⊥)
     × (CallsBy two_levels s (Smc (registers 0x84000002 0)) (Enter (start 1)) → ⊥)
 other_calls = search arith
 
+abbrev Asks : Request → Request → Type 0
+Asks r q = AsksBy two_levels s r q
+
+asked : Asks (CpuOn 0x100 64 7) (CpuOn 0x102 64 7)
+    -- a word that names no core is told as itself
+    × Asks (CpuOn 0x103 64 7) (CpuOn 0x103 64 7)
+    -- the status of a core is asked of the other one, that of a cluster of the same one
+    × Asks (AffinityInfo 0 0x102) (AffinityInfo 0 0x100)
+    × Asks (AffinityInfo 1 0x102) (AffinityInfo 1 0x102)
+    × Asks (NodeHwState 0 0x101) (NodeHwState 0 0x101)
+    -- and where two clusters are swapped, of the other cluster
+    × AsksBy clusters (swap_clusters clusters 0 1) (AffinityInfo 1 0x101) (AffinityInfo 1 0x001)
+    × Asks CpuOff CpuOff
+unfolding core_of node_of
+asked = (
+  (0x102, refl, refl),
+  (0x103, refl, refl),
+  (0x100, refl, refl),
+  (0x102, refl, refl),
+  (0x101, refl, refl),
+  (0x001, refl, refl),
+  refl,
+)
+
 -- another function, mode, entry point, context id and level
-other_requests : (AsksBy two_levels s CpuOff Version → ⊥)
-    × (AsksBy two_levels s (SetSuspendMode 1) (SetSuspendMode 3) → ⊥)
-    × (AsksBy two_levels s (CpuOn 0x100 64 7) (CpuOn 0x102 68 7) → ⊥)
-    × (AsksBy two_levels s (CpuOn 0x100 64 7) (CpuOn 0x102 64 9) → ⊥)
-    × (AsksBy two_levels s (AffinityInfo 0 0x100) (AffinityInfo 1 0x102) → ⊥)
+other_requests : (Asks CpuOff Version → ⊥)
+    × (Asks (SetSuspendMode 1) (SetSuspendMode 3) → ⊥)
+    × (Asks (CpuOn 0x100 64 7) (CpuOn 0x102 68 7) → ⊥)
+    × (Asks (CpuOn 0x100 64 7) (CpuOn 0x102 64 9) → ⊥)
+    × (Asks (AffinityInfo 0 0x100) (AffinityInfo 1 0x102) → ⊥)
 other_requests = search arith
 
 -- an entry in the present life, also with the boot core renumbered; one that begins a life, where
 -- it is not; an acknowledgement
-sparing : SparesBoot (swap_cores 0 1) 2 (Enter (start 3))
-    × SparesBoot s 1 (Enter (start 1))
+sparing : SparesBoot (swap_cores 0 1) 2 (Enter (start 3)) × SparesBoot s 1 (Enter (start 1))
     × SparesBoot (swap_cores 0 1) 1 (Take (ack 0))
 sparing = (inl refl, inr refl, tt)
 
@@ -170,18 +213,24 @@ not_sparing : (SparesBoot (swap_cores 0 1) 1 (Enter (start 1)) → ⊥)
     × (SparesBoot (swap_cores 0 1) 3 (Enter (start 1)) → ⊥)
 not_sparing = search arith
 
--- Values, of a halting life 2 ---------------------------------------------------------------------
+-- Values ------------------------------------------------------------------------------------------
 
 abbrev waiting : Slot → Option MessageValue
 waiting (OfCore c) = if c == 1 then Some (down 1) else None
-waiting OfSystem = Some (system_off 3)
+waiting OfSystem = Some (message Off 3 2 6 [])
 
--- a halting life 2 in OS-initiated mode, in which core 1 is suspended in retention
+-- core 1 alone is ON and suspended in retention, with an opening; each core has its own known
+-- start, and each domain its own depth
 abbrev values : Values
-values = record kept {
+values = record {
+  life = 2;
+  halting = true;
+  mode = OsInitiated;
+  known = λ c. c + 10;
   status = λ c. if c == 1 then statuses.On else statuses.Off;
   phase = λ c. if c == 1 then phases.Suspended (2 ∷ []) else phases.Away;
   opening = λ c. if c == 1 then Some (record { address = 64; context = 9 }) else None;
+  granted = λ level place. level * 10 + place;
   confirmed = λ level place. (level == 0 && place == 1) || (level == 1 && place == 0);
   outstanding = waiting;
 }
@@ -198,7 +247,7 @@ values_moved : (moved.life ≡ 2) × (moved.halting ≡ true) × (moved.mode ≡
     × (map moved.opening (1 ∷ 2 ∷ 3 ∷ [])
     ≡ None ∷ None ∷ Some (record { address = 64; context = 9 }) ∷ [])
     × (map moved.outstanding (OfCore 1 ∷ OfCore 3 ∷ OfSystem ∷ [])
-    ≡ None ∷ Some (down 3) ∷ Some (system_off 1) ∷ [])
+    ≡ None ∷ Some (down 3) ∷ Some (message Off 1 2 6 []) ∷ [])
 values_moved = (refl, refl, refl, refl, refl, refl, refl, refl)
 
 -- with two clusters swapped
@@ -210,3 +259,37 @@ domains_moved : (map (turned.granted 0) (0 ∷ 1 ∷ 2 ∷ 3 ∷ 4 ∷ []) ≡ 2
     × (map (turned.confirmed 0) (0 ∷ 1 ∷ 2 ∷ 3 ∷ []) ≡ false ∷ false ∷ false ∷ true ∷ [])
     × (map (turned.confirmed 1) (0 ∷ 1 ∷ 2 ∷ []) ≡ false ∷ true ∷ false ∷ [])
 domains_moved = (refl, refl, refl, refl, refl)
+
+-- Histories ---------------------------------------------------------------------------------------
+
+-- CPU_ON of a core, by a core that does not run
+abbrev asks_on : ℕ → ℕ → FwExchange
+asks_on c target = record {
+  core = c;
+  call = Smc (registers 0xc4000003 target);
+  reply = Fault NotRunning;
+}
+
+-- a core calls CPU_OFF, and its message goes out
+abbrev goes_off : ℕ → ℕ → FwExchange
+goes_off c sender = record { core = c; call = Smc (registers 0x84000002 0); reply = stop sender }
+
+-- the same, told of the swapped cores
+abbrev ToldBy : List FwExchange → Type 0
+ToldBy h = HappenedBy two_levels s (goes_off 1 1 ∷ asks_on 3 0x100 ∷ []) h
+
+both_swapped : ToldBy (goes_off 3 3 ∷ asks_on 1 0x102 ∷ [])
+unfolding core_of
+both_swapped = (
+  record { core = refl; call = refl; reply = refl },
+  (record { core = refl; call = (0x102, refl, refl); reply = refl }, tt),
+)
+
+-- by the core itself, with its own message, in another order, and without one of them
+told_otherwise : (ToldBy (goes_off 1 3 ∷ asks_on 1 0x102 ∷ []) → ⊥)
+    × (ToldBy (goes_off 3 1 ∷ asks_on 1 0x102 ∷ []) → ⊥)
+    × (ToldBy (asks_on 1 0x102 ∷ goes_off 3 3 ∷ []) → ⊥)
+    × (ToldBy (goes_off 3 3 ∷ []) → ⊥)
+    × (ToldBy (goes_off 3 3 ∷ asks_on 3 0x102 ∷ []) → ⊥)
+unfolding core_of
+told_otherwise = search arith

@@ -1,7 +1,6 @@
 pub mod Acknowledged
 pub mod Agreed
 pub mod Agreeing
-mod AgreementRows
 pub mod AllDown
 pub mod AllTested
 pub mod Applied
@@ -14,37 +13,29 @@ pub mod Confirming
 pub mod CoreSteps
 pub mod Deep
 pub mod Deliveries
-mod DownRows
 pub mod Entering
 pub mod Filters
 pub mod Functions
-mod HaltingRows
 pub mod Happening
-mod HardwareRows
+mod KnownRows
 mod Histories
-mod LevelsRows
 pub mod Items
 pub mod LiveOnes
-mod LiveRows
 mod LivesRows
-mod MadeRows
 pub mod Making
 pub mod Moves
 pub mod Moving
 pub mod Naming
 pub mod Nexts
 mod Once
-mod OpeningRows
 pub mod Outcomes
 pub mod Placing
 mod PairRows
 mod PowerRows
 pub mod Quiet
 mod Ranges
-mod RefusalRows
 pub mod Refusing
 pub mod Returned
-mod SafeRows
 pub mod Sending
 pub mod Slept
 pub mod Sound
@@ -52,9 +43,8 @@ pub mod States
 pub mod StatesReal
 mod Tested
 pub mod ToldHw
-mod ToldHwRows
 pub mod ToldOff
-mod ToldOffRows
+mod ToldRows
 pub mod Waiting
 pub mod Words
 -- In the order of the argument of docs/understand/SETTLING.md.
@@ -98,11 +88,8 @@ pub mod Sources
 pub mod Settled
 mod Excluded
 mod Failing
-mod NameRows
 mod RestRows
-mod SettledRows
 mod SettleRows
-mod WaitingRows
 -- What is told once both sides agree.
 -- In the order of the argument of docs/understand/SETTLING.md.
 pub mod Beside
@@ -112,11 +99,7 @@ pub mod Confirmed
 pub mod Whole
 -- Worked examples.
 pub mod Untold
-mod ConfirmingRows
 mod UntoldRows
-mod ToldWholeRows
-mod AtRestRows
-mod WholeRows
 pub use Rattle.psci_ctl_spec.proofs as ctl_spec
 pub use Rattle.psci_fw_laws.proofs.fw_spec
 pub use Rattle.psci_world_spec.proofs as world_spec

@@ -86,8 +86,6 @@ each_wrong_entry : Gives failing_after (each wrong_entry
 unfolding computing
 each_wrong_entry = refl
 
--- Entries in later lives and other modes ---------------------------------------------------------
-
 entries : Gives failing_after
     -- off_core_runs_in_life_3: a core that was woken is answered before it has entered
     (Breaks Stopped board (Legal (life_3 ++ Wake 3 ∷ []) ∷ version 3 ⇒ value 65537 ∷ [])
@@ -107,7 +105,6 @@ entries : Gives failing_after
     ⇒ enters 0x40000004 0 ∷ [])
     -- boots_again_in_life_2: and once more at the boot address
     ∷ Breaks Once board (Legal (life_2 ++ Reset 0 ∷ []) ∷ Enter 0 ⇒ enters 0x40000000 0 ∷ [])
-    -- The extended format -------------------------------------------------------------------
     -- extended_off_core_runs: a core that was woken is answered before it has entered
     ∷ Breaks Stopped extended (Legal (Enter 0 ∷ Wake 3 ∷ []) ∷ version 3 ⇒ value 65537 ∷ [])
     -- cluster_deeper_than_asked: a core asks for retention of its cluster, which is powered down
@@ -124,12 +121,9 @@ entries : Gives failing_after
     -- retention
     ∷ Breaks Real extended (Legal (third_on ++ call 3 0xc4000001 0x22 0 0 ∷ []) ∷ Deliver 1
     ⇒ acked 1 Down 3 1 1 1 false ∷ Deliver 99 ⇒ acked 2 Down 3 1 1 2 false ∷ Legal (Take 2 ∷ [])
-    ∷ [])
-    ∷ [])
+    ∷ []) ∷ [])
 unfolding computing
 entries = refl
-
--- Safe runs --------------------------------------------------------------------------------------
 
 -- a core that is on sleeps, wakes, goes off, is OFF and comes on again as it is asked to
 abbrev whole : List Event → ℕ → Event → ℕ → List Event
@@ -163,15 +157,13 @@ runs : AreSafe board
     ∷ Take 2 ∷ [])
     -- boot_core_down_twice: so is the boot core
     ∷ (third_on ++ suspend board 0 ∷ Deliver 1 ∷ Take 1 ∷ Wake 0 ∷ Enter 0 ∷ off 0 ∷ Deliver 2
-    ∷ Take 2 ∷ [])
-    ∷ [])
+    ∷ Take 2 ∷ []) ∷ [])
 unfolding computing
 runs = refl
 
 runs_of_five_cores : AreSafe five
     -- whole_last_of_five: the last one of five cores
-    (whole last_on 4 (call 0 0xc4000003 0x101 0x40001000 7) 1
-    ∷ [])
+    (whole last_on 4 (call 0 0xc4000003 0x101 0x40001000 7) 1 ∷ [])
 unfolding computing
 runs_of_five_cores = refl
 
@@ -180,7 +172,6 @@ runs_in_the_extended_format : AreSafe extended
     (whole third_on 3 on_3 1
     -- cluster_down: a core takes its cluster down, and comes back
     ∷ (third_on ++ call 3 0xc4000001 0x40000033 0x40004000 5 ∷ Deliver 1 ∷ Take 1 ∷ Wake 3 ∷ Enter 3
-    ∷ [])
-    ∷ [])
+    ∷ []) ∷ [])
 unfolding computing
 runs_in_the_extended_format = refl

@@ -1,4 +1,3 @@
-pub mod Bytes
 mod CoreBytes
 pub mod Faults
 pub mod Frames

@@ -1,17 +1,21 @@
--- Worked examples: what cores ask by their words, and moments at which they ask for a depth or not.
+-- Worked examples: what cores ask by their words, moments at which they ask for a depth or not, and
+-- what the start of a life takes down.
 use Rattle.std.proofs.Common.{◌≡◌, ◌≤◌, ◌++◌, ℕ, List, [], ◌∷◌, inl, inr, map, refl, arith}
 use Rattle.psci_headline.specs.psci_fw_spec.declared.mode.SuspendMode.TheVariants.{OsInitiated}
 use Rattle.psci_headline.specs.psci_fw_spec.declared.mode.SuspendMode.TheVariants.{Platform}
 use Rattle.psci_headline.specs.psci_world_spec.declared.event.Event.{Event}
 use Rattle.psci_headline.specs.psci_world_spec.declared.event.Event.TheVariants.{Deliver, Enter}
 use Rattle.psci_headline.specs.psci_world_spec.declared.said.Record.{Record}
-use Rattle.psci_headline.proofs.world_spec.Scripts.{call, off}
+use Rattle.psci_headline.proofs.world_spec.Scripts.{call, off, system_off, value}
 use Rattle.psci_headline.proofs.Tables.{◌⇒◌, Gives}
-use Rattle.psci_platform_safe.specs.Asked.{AllAsk, AskFor, asks, depth_above}
-use Rattle.psci_platform_safe.proofs.Histories.{after, computing, core_1_on, on_1}
-use Rattle.psci_platform_safe.proofs.Histories.{on_by_the_system, suspend, tall, tall_after}
-use Rattle.psci_platform_safe.proofs.Histories.{tall_on, two}
-use Rattle.psci_platform_safe.proofs.Moments.{all_ask}
+use Rattle.psci_platform_safe.specs.Asked.{AllAsk, AskFor, asks, AsksByWord, IsFromStart}
+use Rattle.psci_platform_safe.proofs.Histories.{after, computing, core_1_on, on_1, on_by_the_system}
+use Rattle.psci_platform_safe.proofs.Histories.{suspend, tall, tall_after, tall_on, two, life_2}
+use Rattle.psci_platform_safe.proofs.Histories.{says, told}
+use Rattle.psci_platform_safe.proofs.Moments.{all_ask, apart, of_level}
+use Rattle.std.specs.Prelude.{slice_index}
+use Rattle.psci_platform.specs.States.{depth_at}
+use Rattle.psci_platform_safe.specs.Words.{run_on}
 
 -- what a core asks of itself, its cluster and the system after these events
 abbrev asks_after : ℕ × List Event → List ℕ
@@ -35,12 +39,6 @@ asked_after : Gives asks_after
     ∷ (0x203, core_1_on) ⇒ (3 ∷ 3 ∷ 3 ∷ []) ∷ [])
 unfolding computing
 asked_after = refl
-
--- how deep a core's domains are: core 1 is suspended with its cluster, beside core 0, which is off
-depths : map (depth_above two (after (core_1_on ++ suspend 1 0x01010012 ∷ Deliver 1 ∷ [])) 0)
-    (0 ∷ 1 ∷ 2 ∷ []) ≡ 3 ∷ 2 ∷ 0 ∷ []
-unfolding computing
-depths = refl
 
 -- core 1 runs and asks nothing of its cluster, whatever core 0 asks
 one_runs : AllAsk two (after core_1_on) 0 1 2 1 → ⊥
@@ -81,3 +79,69 @@ others_have_to_ask both = omega (arith, both.1 0 ((0, refl), refl))
 own_ask : AskFor OsInitiated two (after (core_1_on ++ suspend 1 0x00000001 ∷ [])) 1 1 1 2 → ⊥
 unfolding computing
 own_ask both = omega (arith, both.0)
+
+-- each domain but those above the boot core, at each level, and in each life
+from_the_start : IsFromStart tall (tall_after (Enter 0x100 ∷ [])) 0x10000 2 3
+    × IsFromStart two (after life_2) 0x203 0 3
+unfolding computing
+from_the_start = (
+  record { off_path = λ beside. apart _ _ refl beside.1; deep = refl; live = refl },
+  record { off_path = λ beside. apart _ _ refl beside.1; deep = refl; live = refl },
+)
+
+not_from_the_start :
+    -- own_group: not the boot core's own group
+    (IsFromStart tall [] 0x300 2 3 → ⊥)
+    -- the_system: nor the system
+    × (IsFromStart tall [] 0x10000 3 3 → ⊥)
+    -- own_group_without_a_life: nor its group once the system is off
+    × (IsFromStart tall (tall_after (Enter 0x100 ∷ system_off 0x100 ∷ Deliver 0 ∷ [])) 0x300 2 3
+    → ⊥)
+    -- started_since: nor a core that was started
+    × (IsFromStart two (after core_1_on) 1 0 3 → ⊥)
+    -- in_retention: and nothing but power-down
+    × (IsFromStart two (after (Enter 0x200 ∷ [])) 0x203 0 2 → ⊥)
+unfolding computing
+not_from_the_start = (
+  λ is. is.off_path ((3, refl), refl),
+  λ is. is.off_path ((3, refl), refl),
+  λ is. is.off_path ((3, refl), refl),
+  λ is. omega (arith, is.live),
+  λ is. omega (arith, is.deep),
+)
+
+-- what a word asks is the class of each level's state, by the row of the word
+group_by_word : AsksByWord tall (told tall (run_on tall [] tall_on) (suspend 0x10100 0x02010113))
+    (run_on tall [] tall_on) 0x10100 0x02010113
+unfolding computing
+group_by_word = record {
+  states = 3 ∷ 1 ∷ 1 ∷ 0 ∷ [];
+  row = refl;
+  asked = λ level low.
+      of_level (λ l. asks tall (run_on tall []
+      (tall_on ++ suspend 0x10100 0x02010113 ∷ [])) 0x10100 l
+      ≡ depth_at tall.description l (slice_index (3 ∷ 1 ∷ 1 ∷ 0 ∷ []) l)) 3 level low
+      (refl, (refl, (refl, (refl, tt))));
+}
+
+-- core 1 was suspended in OS-initiated mode, and the other mode is set, which the firmware would
+-- refuse
+abbrev mode_set : List Record
+mode_set = says (after (on_by_the_system ++ suspend 1 0x01010022 ∷ []))
+    (call 0x200 0x8400000f 0 0 0) (value 0)
+
+not_by_word :
+    -- runs_on: a core that runs on asks nothing by the word
+    (AsksByWord tall (told tall (tall_after tall_on) (suspend 0x10000 0x02010113))
+    (tall_after tall_on) 0x10100 0x02010113 → ⊥)
+    -- in_the_other_mode: nor does one whose word has states in the other mode alone
+    × (AsksByWord two (told two (after core_1_on) (suspend 1 0x01010022)) (after core_1_on) 1
+    0x01010022 → ⊥)
+    -- mode_set_since: also where it was suspended in that mode
+    × (AsksByWord two (told two mode_set (Deliver 9)) mode_set 1 0x01010022 → ⊥)
+unfolding computing
+not_by_word = (
+  λ by. grind (arith, by.row, by.asked 0 (omega arith)),
+  search arith,
+  search arith,
+)

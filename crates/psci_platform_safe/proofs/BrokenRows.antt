@@ -1,25 +1,18 @@
 -- Worked examples: for each sentence histories that break it: at each level, in both modes, in life
 -- 2 and in a life that is halting. None of them is legal: in each one thing is said that is not so.
--- `OffRows` has those of what is said to be OFF.
-use Rattle.std.proofs.Common.{◌≡◌, ◌≤◌, ◌++◌, List, [], ◌∷◌, false, Some, refl, arith, ap}
-use Rattle.std.proofs.Common.{◌∙◌, inl, inr, true}
-use Rattle.psci_headline.specs.psci_fw_spec.declared.opening.Opening.{Opening}
+-- `OffRows` has those of what is said to be OFF, `WaitRows` those of entries.
+use Rattle.std.proofs.Common.{◌≡◌, ◌≤◌, ◌++◌, [], ◌∷◌, false, refl, arith, true}
 use Rattle.psci_headline.specs.psci_messages.declared.kind.Kind.TheVariants.{Down}
 use Rattle.psci_headline.specs.psci_world_spec.declared.event.Event.TheVariants.{Deliver, Enter}
 use Rattle.psci_headline.specs.psci_world_spec.declared.event.Event.TheVariants.{Wake}
-use Rattle.psci_headline.specs.psci_world_spec.declared.said.Record.{Record}
-use Rattle.psci_headline.proofs.world_spec.Scripts.{acked, call, enters, goes_down, off, part}
-use Rattle.psci_headline.proofs.world_spec.Scripts.{resumes, sends, stops, system_off, value}
-use Rattle.psci_headline.specs.Openings.{Made, OfCall, TakenUp}
-use Rattle.psci_platform_safe.specs.Opened.{OneEntryEach}
+use Rattle.psci_headline.proofs.world_spec.Scripts.{acked, goes_down, off, part, resumes, sends}
+use Rattle.psci_headline.proofs.world_spec.Scripts.{stops, system_off, value}
 use Rattle.psci_platform_safe.specs.Safe.{NoneBelowSleeping, OneLiveClaim, SafeOn, StatesWereReal}
 use Rattle.psci_platform_safe.proofs.Histories.{after, computing, core_1_off, core_1_on}
 use Rattle.psci_platform_safe.proofs.Histories.{on_by_the_system, on_in_life_2, says, state_of}
 use Rattle.psci_platform_safe.proofs.Histories.{suspend, tall, tall_after, tall_in_life_2, tall_on}
 use Rattle.psci_platform_safe.proofs.Histories.{two}
 use Rattle.psci_platform_safe.proofs.OffRows.{answers, core_1, its_cluster}
-
--- 1 ----------------------------------------------------------------------------------------------
 
 -- a core goes on without a start
 none_below_sleeping :
@@ -64,7 +57,10 @@ none_below_sleeping = (
   λ none. omega (arith, none 1 1 (1, refl) (omega arith) refl),
 )
 
--- 2 ----------------------------------------------------------------------------------------------
+-- and so the platform is not safe
+not_safe : SafeOn two (says (after (core_1_on ++ off 1 ∷ Deliver 1 ∷ [])) (Enter 1) resumes) → ⊥
+unfolding computing
+not_safe safe = none_below_sleeping.0 safe.powered
 
 -- a domain is claimed twice in one start
 one_live_claim :
@@ -120,71 +116,13 @@ one_live_claim = (
   λ one. let no : 2 ≤ 1 = one 0x100 3 (3, refl) (omega arith) in omega (arith, no),
 )
 
--- 4 ----------------------------------------------------------------------------------------------
-
--- the opening that core 1 was made by the second call of the firmware, and an entry at another one
-abbrev made_1 : Made
-made_1 = record {
-  maker = OfCall 1;
-  core = 3;
-  life = 1;
-  opening = record { address = 0x40001000; context = 7 };
-}
-
-abbrev entry_1 : TakenUp
-entry_1 = record {
-  entered = record {
-    core = 3;
-    life = 1;
-    opening = record { address = 0x40001000; context = 8 };
-  };
-  made = Some made_1;
-}
-
--- core 1 enters with another context id than that of its CPU_ON
-other_context : SafeOn two
-    (says (after (Enter 0x200 ∷ call 0x200 0xc4000003 1 0x40001000 7 ∷ Deliver 0 ∷ [])) (Enter 1)
-    (enters 0x40001000 8)) → ⊥
-unfolding computing
-other_context safe =
-    let taken = safe.taken.each 0 entry_1 refl in
-    let made : Some made_1 ≡ Some taken.0 = taken.1 in
-    let same : made_1 ≡ taken.0 = cc in
-    let no : 7 ≡ 8 =
-    ap (λ (m : Made). m.opening.context) same
-    ∙ ap (λ (o : Opening). o.context) taken.2.opening in
-    absurd (omega (arith, no))
-
-no_end : (xs ys : List Record) (y : Record) → [] ≡ xs ++ (y ∷ ys) → ⊥
-no_end [] ys y e = absurd (cc)
-no_end (x ∷ xs) ys y e = absurd (cc)
-
--- core 1 enters at an opening before any call was made
-never_asked_on : OneEntryEach two (says [] (Enter 1) (enters 0x40001000 7)) → ⊥
-unfolding computing
-never_asked_on one =
-    elim (one 1 (record { address = 0x40001000; context = 7 }) _ refl refl) [
-      | inl w ↦ elim w.made [
-        | inl by ↦
-            no_end w.since by.1 by.0 (w.split ∙ ap (λ (rs : List Record). w.since ++ rs) by.2)
-        | inr by ↦ let no : 1 ≡ 0x200 = by.0 in absurd (omega (arith, no))
-      ]
-      | inr by ↦ let no : 1 ≡ 0x200 = by.0 in absurd (omega (arith, no))
-    ]
-
--- 5 ----------------------------------------------------------------------------------------------
-
 -- a core or domain is said to be off, or in standby
 states_were_real :
     -- off_and_on: core 1 is on
     (StatesWereReal two (says (after core_1_on) (state_of 0x200 1 0) (value 1)) → ⊥)
-    -- standby_and_on: its cluster is on
-    × (StatesWereReal two (says (after core_1_on) (state_of 0x200 5 1) (value 2)) → ⊥)
     -- off_and_retained: its cluster is in retention
-    × (StatesWereReal two (says (after (core_1_on ++ suspend 1 0x01010012 ∷ Deliver 1 ∷ []))
-    (state_of 0x200 1 1) (value 1)) → ⊥)
-    -- standby_and_off: its cluster is off
-    × (StatesWereReal two (says (after core_1_off) (state_of 0x200 1 1) (value 2)) → ⊥)
+    × (StatesWereReal two (says (after (core_1_on ++ suspend 1 0x01010012 ∷ Deliver 1
+    ∷ [])) (state_of 0x200 1 1) (value 1)) → ⊥)
     -- group_off_and_its_cluster: of a group the cluster of the far core alone is off
     × (StatesWereReal tall (says (tall_after (tall_on ++ suspend 0x10100 0x01010023 ∷ Deliver 1
     ∷ [])) (state_of 0x100 0x10000 2) (value 1)) → ⊥)
@@ -192,23 +130,20 @@ states_were_real :
     × (StatesWereReal tall (says (tall_after (tall_on ++ suspend 0x10100 0x02010113 ∷ Deliver 1
     ∷ [])) (state_of 0x100 0 3) (value 2)) → ⊥)
     -- off_by_the_system: before its Down is carried out, in OS-initiated mode
-    × (StatesWereReal two (says (after (on_by_the_system ++ off 1 ∷ [])) (state_of 0x200 1 0)
-    (value 1)) → ⊥)
+    × (StatesWereReal two (says (after (on_by_the_system ++ off 1
+    ∷ [])) (state_of 0x200 1 0) (value 1)) → ⊥)
     -- off_in_life_2: and in life 2
-    × (StatesWereReal two (says (after (on_in_life_2 ++ off 1 ∷ [])) (state_of 0x200 1 0)
-    (value 1)) → ⊥)
+    × (StatesWereReal two (says (after (on_in_life_2 ++ off 1 ∷ [])) (state_of 0x200 1 0) (value 1))
+    → ⊥)
     -- standby_while_halting: and while the life is halting
-    × (StatesWereReal two (says (after (core_1_on ++ suspend 1 0x00000001 ∷ system_off 0x200 ∷ []))
-    (state_of 0x200 1 0) (value 2)) → ⊥)
+    × (StatesWereReal two (says (after (core_1_on ++ suspend 1 0x00000001 ∷ system_off 0x200
+    ∷ [])) (state_of 0x200 1 0) (value 2)) → ⊥)
     -- boot_core_off_and_on: the boot core is on
     × (StatesWereReal two (says (after (Enter 0x200 ∷ [])) (state_of 0x200 0x200 0) (value 1)) → ⊥)
 unfolding computing
 states_were_real = (
   λ real. let no : false ≡ true = (real 1 0 1 core_1).0 (answers refl) in cc,
-  λ real. let no : false ≡ true = (real 5 1 1 (record { core = (1, refl); domain = refl })).1
-      (answers refl) in cc,
   λ real. let no : false ≡ true = (real 1 1 1 its_cluster).0 (answers refl) in cc,
-  λ real. let no : false ≡ true = (real 1 1 1 its_cluster).1 (answers refl) in cc,
   λ real. let no : false ≡ true =
       (real 0x10000 2 0x10000 (record { core = (1, refl); domain = refl })).0 (answers refl) in cc,
   λ real. let no : false ≡ true =

@@ -1,25 +1,27 @@
--- Worked examples: a platform, what is said on it in its own words, and what is behind that.
-use Rattle.std.proofs.Common.{◌≡◌, ◌++◌, ℕ, List, [], ◌∷◌, map, reverse, false, None, refl, arith}
-use Rattle.psci_platform.specs.Platforms.{IsPlatform}
+-- Worked examples: two platforms, what is said on them in their own words, and what is behind that.
+use Rattle.std.proofs.Common.{◌≡◌, ◌++◌, List, [], ◌∷◌, map, reverse, false, refl, arith}
+use Rattle.psci_platform.specs.Platforms.{IsPlatform, PlatformValue}
 use Rattle.psci_headline.specs.psci_messages.declared.kind.Kind.TheVariants.{Down, Start}
 use Rattle.psci_headline.specs.psci_world_spec.declared.event.Event.{Event}
 use Rattle.psci_headline.specs.psci_world_spec.declared.event.Event.TheVariants.{Deliver, Enter}
-use Rattle.psci_headline.specs.psci_world_spec.declared.event.Event.TheVariants.{Reset, Take}
+use Rattle.psci_headline.specs.psci_world_spec.declared.event.Event.TheVariants.{Reset, Take, Wake}
 use Rattle.psci_headline.specs.psci_world_spec.declared.said.Record.{Record}
 use Rattle.psci_headline.specs.psci_world_spec.declared.said.Said.{Said}
-use Rattle.psci_headline.proofs.world_spec.Scripts.{acked, asks_on, call, enters, error}
-use Rattle.psci_headline.proofs.world_spec.Scripts.{goes_down, off, on_3, part, used, value}
+use Rattle.psci_headline.proofs.world_spec.Scripts.{acked, asks_on, enters, goes_down, off, on_3}
+use Rattle.psci_headline.proofs.world_spec.Scripts.{part, used, value, resumes, started}
 use Rattle.psci_headline.proofs.Tables.{◌⇒◌, Gives}
-use Rattle.psci_platform_safe.specs.Names.{IsAskedOf, IsCore, mpidr_of, node_asked, number}
-use Rattle.psci_platform_safe.specs.Words.{IsLegalOn, numbered}
+use Rattle.psci_platform_safe.specs.Names.{IsAskedOf, IsCore, mpidr_of, number, domain_above}
+use Rattle.psci_platform_safe.specs.Words.{IsLegalOn, numbered, run_on}
 use Rattle.psci_platform_safe.proofs.Histories.{after, computing, core_1_off, core_1_on, on_1, says}
-use Rattle.psci_platform_safe.proofs.Histories.{status_of, two}
+use Rattle.psci_platform_safe.proofs.Histories.{status_of, two, state_of, suspend, tall}
+use Rattle.psci_headline.specs.psci_messages.declared.start.Cause.TheVariants as causes
 
--- The platform ----------------------------------------------------------------------------------
-
-is_platform : IsPlatform two
+are_platforms : IsPlatform two × IsPlatform tall
 unfolding computing
-is_platform = record { faultless = refl; place = refl; inside = omega arith; symmetric = refl }
+are_platforms = (
+  record { faultless = refl; place = refl; inside = omega arith; symmetric = refl },
+  record { faultless = refl; place = refl; inside = omega arith; symmetric = refl },
+)
 
 -- the firmware's numbers for MPIDRs, and back; past the last core where no core has the MPIDR
 numbers : Gives (number two)
@@ -36,41 +38,35 @@ no_cores : (IsCore two 0x201 → ⊥) × (IsCore two 2 → ⊥)
 unfolding computing
 no_cores = search arith
 
--- What is asked of ------------------------------------------------------------------------------
-
 asked_of :
     -- core_asked: a core by its whole MPIDR
     IsAskedOf two 0x203 0 0x203
     -- cluster_asked: a cluster by the fields above
     × IsAskedOf two 0x2ff 1 0x203
+    -- group_asked: a group
+    × IsAskedOf tall 0x1ffff 2 0x10000
     -- system_asked: and the system
-    × IsAskedOf two 0xff00 2 1
+    × IsAskedOf tall 0xffffff 3 0x300
 unfolding computing
 asked_of = (
   record { core = (3, refl); domain = refl },
   record { core = (3, refl); domain = refl },
   record { core = (1, refl); domain = refl },
+  record { core = (2, refl); domain = refl },
 )
 
--- not another core, nor a core of another cluster
+-- not another core, nor a core of another cluster or group
 not_asked_of : (IsAskedOf two 0 0 1 → ⊥) × (IsAskedOf two 0 1 0x200 → ⊥)
+    × (IsAskedOf tall 0x0ffff 2 0x10000 → ⊥)
 unfolding computing
 not_asked_of = search arith
 
--- a gap names nothing, nor does a level above
-none_named : Gives (λ (x : ℕ × ℕ). node_asked two x.0 x.1)
-    ((0x201, 0) ⇒ None ∷ (0x100, 1) ⇒ None ∷ (0, 3) ⇒ None ∷ [])
-unfolding computing
-none_named = refl
-
--- What is said ----------------------------------------------------------------------------------
-
 -- what is said of these events in turn
-abbrev said_of : List Event → List Said
-said_of events = reverse (map (λ (r : Record). r.said) (after events))
+abbrev said_of : PlatformValue → List Event → List Said
+said_of p events = reverse (map (λ (r : Record). r.said) (run_on p [] events))
 
 -- core 1 is asked on, enters, goes off with its cluster, and is OFF; messages name it by its MPIDR
-core_goes_off : said_of (core_1_off ++ status_of 0x200 1 0 ∷ [])
+core_goes_off : said_of two (core_1_off ++ status_of 0x200 1 0 ∷ [])
     ≡ enters 0x40000000 0 ∷ asks_on 0 1 1 0 ∷ acked 0 Start 1 1 0 1 false ∷ enters 0x40001000 7
     ∷ goes_down 1 1 1 1 (part 0 3 1 ∷ part 1 3 1 ∷ []) ∷ acked 1 Down 1 1 1 2 false ∷ used
     ∷ value 1 ∷ []
@@ -88,14 +84,24 @@ its_reset : map (λ (r : Record). r.event) (numbered two (after (Enter 0x200 ∷
 unfolding computing
 its_reset = refl
 
--- an MPIDR that no core has: INVALID_PARAMETERS (-2)
-gap_asked_on : said_of (Enter 0x200 ∷ call 0x200 0xc4000003 2 0x40001000 7 ∷ [])
-    ≡ enters 0x40000000 0 ∷ error 2 ∷ []
-unfolding computing
-gap_asked_on = refl
-
 -- not legal: core 1 is OFF while it runs, and a message with the firmware's number
 not_legal : (IsLegalOn two (says (after core_1_on) (status_of 0x200 1 0) (value 1)) → ⊥)
     × (IsLegalOn two (says (after (Enter 0x200 ∷ [])) on_1 (asks_on 0 3 1 0)) → ⊥)
 unfolding computing
 not_legal = search arith
+
+-- the place of a core's domain of each level
+places : Gives (λ level. (domain_above tall 0x10000 level).place)
+    (0 ⇒ 2 ∷ 1 ⇒ 2 ∷ 2 ⇒ 1 ∷ 3 ⇒ 0 ∷ [])
+unfolding computing
+places = refl
+
+-- the system is in retention with all below it, and on again once the boot core has resumed
+system_sleeps : said_of tall (Enter 0x100 ∷ suspend 0x100 0x03001112 ∷ Deliver 0 ∷ Take 0
+    ∷ Wake 0x100
+    ∷ Enter 0x100 ∷ state_of 0x100 0x300 3 ∷ [])
+    ≡ enters 0x40000000 0
+    ∷ goes_down 0 0x100 1 1 (part 0 2 1 ∷ part 1 2 1 ∷ part 2 2 1 ∷ part 3 2 1 ∷ [])
+    ∷ acked 0 Down 0x100 1 1 4 false ∷ used ∷ started 1 2 causes.Wake ∷ resumes ∷ value 0 ∷ []
+unfolding computing
+system_sleeps = refl

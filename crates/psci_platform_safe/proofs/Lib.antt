@@ -16,15 +16,10 @@ pub mod Histories
 mod Moments
 mod Openings
 mod LegalRows
-mod TallRows
 mod HoldsRows
-mod OpenerRows
 mod WaitRows
 mod AskedRows
 mod AskedForRows
-mod StartRows
 mod OffRows
-mod GoneRows
 mod BrokenRows
-mod DeeperRows
 pub mod Words

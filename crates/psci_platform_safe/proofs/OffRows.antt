@@ -1,20 +1,35 @@
--- Worked examples: histories that break the second part of sentence 1, in which what AFFINITY_INFO
--- says is OFF is not: at each level, in both modes, in life 2 and in a life that is halting.
-use Rattle.std.proofs.Common.{◌≡◌, ◌++◌, ℕ, pos, [], ◌∷◌, true, false, Option, refl}
+-- Worked examples: cores that are not off, and histories that break the second part of sentence 1,
+-- in which what AFFINITY_INFO says is OFF is not: at each level, in both modes, in life 2 and in a
+-- life that is halting.
+use Rattle.std.proofs.Common.{◌≡◌, ◌++◌, [], ◌∷◌, true, false, refl, ℕ, pos, Option}
+use Rattle.psci_headline.specs.psci_world_spec.declared.event.Event.TheVariants.{Deliver, Enter}
+use Rattle.psci_headline.specs.psci_world_spec.declared.event.Event.TheVariants.{Wake, Call}
+use Rattle.psci_headline.proofs.world_spec.Scripts.{off, value, system_off}
+use Rattle.psci_platform_safe.specs.Safe.{IsOff, Answers, OffIsDown}
+use Rattle.psci_platform_safe.proofs.Histories.{after, computing, core_1_on, on_in_life_2, says}
+use Rattle.psci_platform_safe.proofs.Histories.{status_of, suspend, tall, tall_after, tall_on, two}
+use Rattle.psci_platform_safe.proofs.Histories.{on_by_the_system}
 use Rattle.psci_headline.specs.psci_abi.Calls.{request_of}
 use Rattle.psci_headline.specs.psci_abi.declared.registers.Regs.{Regs}
 use Rattle.psci_headline.specs.psci_abi.declared.request.Request.{Request}
-use Rattle.psci_headline.specs.psci_fw_spec.declared.outcome.Act.TheVariants as acts
-use Rattle.psci_headline.specs.psci_world_spec.declared.event.Event.TheVariants.{Call, Deliver}
-use Rattle.psci_headline.specs.psci_world_spec.declared.event.Event.TheVariants.{Enter, Wake}
 use Rattle.psci_headline.specs.psci_world_spec.declared.said.Said.TheVariants.{Fw}
 use Rattle.psci_headline.specs.psci_world_spec.declared.said.Sent.{Sent}
-use Rattle.psci_headline.proofs.world_spec.Scripts.{off, system_off, value}
 use Rattle.psci_platform_safe.specs.Names.{IsAskedOf}
-use Rattle.psci_platform_safe.specs.Safe.{Answers, OffIsDown}
-use Rattle.psci_platform_safe.proofs.Histories.{after, computing, core_1_on, on_by_the_system}
-use Rattle.psci_platform_safe.proofs.Histories.{on_in_life_2, says, status_of, suspend, tall}
-use Rattle.psci_platform_safe.proofs.Histories.{tall_after, tall_on, two}
+use Rattle.psci_headline.specs.psci_fw_spec.declared.outcome.Act.TheVariants as acts
+
+is_not_off :
+    -- boot_core_not_down: the boot core has gone off, and its Down was not delivered
+    (IsOff tall (tall_after (tall_on ++ off 0x100 ∷ [])) 0x100 → ⊥)
+    -- not_down_in_life_2: so in life 2
+    × (IsOff two (after (on_in_life_2 ++ off 1 ∷ [])) 1 → ⊥)
+    -- runs_unentered: core 1, which was powered down and woken, runs before it has entered
+    × (IsOff two (says (after (Enter 0x200 ∷ Wake 1 ∷ [])) (status_of 1 1 0) (value 0)) 1 → ⊥)
+unfolding computing
+is_not_off = (
+  λ gone. let no : false ≡ true = gone.down in cc,
+  λ gone. let no : false ≡ true = gone.down in cc,
+  λ gone. gone.stopped refl,
+)
 
 -- a call that was answered with a number
 pub answers : {caller code : ℕ} {regs : Regs} {sent : Option Sent} {request : Request}
@@ -39,8 +54,6 @@ its_cluster = record { core = (1, refl); domain = refl }
 boot_core : IsAskedOf tall 0x100 0 0x100
 unfolding computing
 boot_core = record { core = (3, refl); domain = refl }
-
--- OFF and runs -----------------------------------------------------------------------------------
 
 -- what is said to be OFF while a core below runs
 off_is_stopped :
@@ -74,8 +87,6 @@ off_is_stopped = (
   λ down. (down 1 0 1 (answers refl) core_1).stopped refl,
   λ down. (down 1 0 1 (answers refl) core_1).stopped refl,
 )
-
--- OFF and not down -------------------------------------------------------------------------------
 
 -- a core that has gone off is said to be OFF before its Down was delivered
 off_is_down :

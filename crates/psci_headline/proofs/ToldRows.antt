@@ -1,7 +1,7 @@
--- Worked examples: what a record says of the hardware state of a domain, and how deep it was;
--- domains that were in standby as NODE_HW_STATE says, and domains that never were.
+-- Worked examples: what a record says of the hardware state of a domain, and how deep it was; what
+-- it says is OFF, and domains of which all cores are off, or one is not; by each axis.
 use Rattle.std.proofs.Common.{◌++◌, ◌+◌, ℕ, Bool, true, false, List, [], ◌∷◌, Option, None, Some}
-use Rattle.std.proofs.Common.{refl}
+use Rattle.std.proofs.Common.{refl, ◌≡◌, arith}
 use Rattle.psci_board.specs.Board.{BoardValue}
 use Rattle.psci_board.specs.declared.node.Node.{Node}
 use Rattle.psci_board.proofs.Tables.{◌⇒◌, Gives, Row}
@@ -15,50 +15,43 @@ use Rattle.psci_world_spec.specs.Histories.{firmware_values}
 use Rattle.psci_world_spec.specs.Legal.{run_from}
 use Rattle.psci_world_spec.proofs.Scripts.{acked, board, call, computing, nothing, off, retention}
 use Rattle.psci_world_spec.proofs.Scripts.{status_3, stops, system_off, system_reset, tall, value}
+use Rattle.psci_world_spec.proofs.Scripts.{on_3, version}
 use Rattle.psci_headline.specs.Hardware.{known_starts, said_hw}
 use Rattle.psci_headline.specs.ToldHw.{is_off_depth, is_standby_depth, told_hw, was_so_deep}
 use Rattle.psci_headline.proofs.Checking.{each}
 use Rattle.psci_headline.proofs.Histories.{Case, cases, after, at, extended, life_2, on_in_group}
-use Rattle.psci_headline.proofs.Histories.{os_mode, third_on}
-
--- Told -------------------------------------------------------------------------------------------
+use Rattle.psci_headline.proofs.Histories.{os_mode, third_on, suspend}
+use Rattle.psci_headline.specs.Moments.{was_powered_down}
+use Rattle.psci_headline.specs.ToldOff.{AllOff, told_off}
+use Rattle.psci_headline.proofs.ToldOff.{is_all_off}
 
 -- a core asks for the hardware state of a word at a level
 abbrev state_of : ℕ → ℕ → ℕ → Event
 state_of c word level = call c 0xc400000d word level 0
 
 -- of which domain that tells that it is in the state
-abbrev told_by : (BoardValue × ℕ × Event × Said) → Option Node
-told_by (b, state, event, said) = told_hw b state event said
+abbrev state_told_by : (BoardValue × ℕ × Event × Said) → Option Node
+state_told_by (b, state, event, said) = told_hw b state event said
 
-told_states : Gives told_by
-    -- core_off: a core is off
+told_states : Gives state_told_by
+    -- a core is off
     ((board, 1, state_of 0 0x101 0, value 1) ⇒ Some (at 0 3)
-    -- core_in_standby: a core is in standby
+    -- a core is in standby
     ∷ (board, 2, state_of 0 0x101 0, value 2) ⇒ Some (at 0 3)
-    -- cluster_off: its cluster is off, by core 2
-    ∷ (board, 1, state_of 2 0x100 1, value 1) ⇒ Some (at 1 1)
-    -- group_in_standby: a group on three levels
+    -- a group on three levels
     ∷ (tall, 2, state_of 0 0x10000 2, value 2) ⇒ Some (at 2 1)
-    -- system_in_standby: the system
-    ∷ (tall, 2, state_of 0 0 3, value 2) ⇒ Some (at 3 0)
-    -- short_word_told: by the word of 32 bits
+    -- by the word of 32 bits
     ∷ (board, 1, call 3 0x8400000d 0 0 0, value 1) ⇒ Some (at 0 0)
-    -- another_answer: not where the answer is another one
+    -- not where the answer is another one
     ∷ (board, 1, state_of 0 0x101 0, value 2) ⇒ None
-    -- on_not_told: not where it is ON
-    ∷ (board, 1, state_of 0 0x101 0, value 0) ⇒ None
-    -- nothing_not_told: not where the word names nothing
+    -- not where the word names nothing
     ∷ (board, 1, state_of 0 0x200 0, value 1) ⇒ None
-    -- others_not_told: not where AFFINITY_INFO answers
+    -- not where AFFINITY_INFO answers
     ∷ (board, 1, status_3, value 1) ⇒ None
-    -- stop_not_told: not where the core stops
-    ∷ (board, 1, state_of 0 0x101 0, stops nothing) ⇒ None
-    ∷ [])
+    -- not where the core stops
+    ∷ (board, 1, state_of 0 0x101 0, stops nothing) ⇒ None ∷ [])
 unfolding computing
 told_states = refl
-
--- How deep ---------------------------------------------------------------------------------------
 
 off_depths : Gives is_off_depth (0 ⇒ false ∷ 1 ⇒ false ∷ 2 ⇒ false ∷ 3 ⇒ true ∷ 4 ⇒ false ∷ [])
 unfolding computing
@@ -75,33 +68,26 @@ was_deep (events, life, starts, is) =
     was_so_deep board life starts is (run_from board [] events) (at 0 3)
 
 -- core 3 went off, and then it was woken
-abbrev gone_off : List Event
-gone_off = third_on ++ off 3 ∷ Deliver 1 ∷ Wake 3 ∷ []
+abbrev woken_later : List Event
+woken_later = third_on ++ off 3 ∷ Deliver 1 ∷ Wake 3 ∷ []
 
 -- it was in retention in life 1, and life 2 has begun
 abbrev next_life : List Event
 next_life = third_on ++ retention 3 ∷ Deliver 1 ∷ system_reset 0 ∷ Deliver 2 ∷ Enter 0 ∷ []
 
 was : Gives was_deep
-    -- was_off_once: after its first start it was powered down
-    ((gone_off, 1, 1, is_off_depth) ⇒ true
-    -- not_in_standby: and not in standby
-    ∷ (gone_off, 1, 1, is_standby_depth) ⇒ false
-    -- not_after_two: nor after two starts
-    ∷ (gone_off, 1, 2, is_off_depth) ⇒ false
-    -- not_yet_in_life_2: nor in another life
-    ∷ (gone_off, 2, 1, is_off_depth) ⇒ false
-    -- was_off_first: before its first start it was powered down by the start of the life
-    ∷ (gone_off, 1, 0, is_off_depth) ⇒ true
-    -- in_life_1: it was in retention in life 1
+    -- after its first start it was powered down
+    ((woken_later, 1, 1, is_off_depth) ⇒ true
+    -- and not in standby
+    ∷ (woken_later, 1, 1, is_standby_depth) ⇒ false
+    -- nor after two starts
+    ∷ (woken_later, 1, 2, is_off_depth) ⇒ false
+    -- it was in retention in life 1
     ∷ (next_life, 1, 1, is_standby_depth) ⇒ true
-    -- not_in_life_2: and in life 2 it was not
-    ∷ (next_life, 2, 1, is_standby_depth) ⇒ false
-    ∷ [])
+    -- and in life 2 it was not
+    ∷ (next_life, 2, 1, is_standby_depth) ⇒ false ∷ [])
 unfolding computing was_so_deep
 was = refl
-
--- Said and was -----------------------------------------------------------------------------------
 
 -- What is said of a domain, and what was: NODE_HW_STATE answers this, and it was in standby.
 record Stands : Type 0 where
@@ -196,7 +182,128 @@ halting : Gives stands
     ((board, at 0 3, after board slept_on) ⇒ record { said = 2; was = true }
     -- never_slept_in_a_halting_life: it is said to be, and never was
     ∷ (board, at 0 3, told board stayed_on (acked 1 Down 3 1 1 1 false) 1)
-    ⇒ record { said = 2; was = false }
-    ∷ [])
+    ⇒ record { said = 2; was = false } ∷ [])
 unfolding computing was_so_deep
 halting = refl
+
+-- a core asks for the status of a word at a level
+abbrev status_of : ℕ → ℕ → ℕ → Event
+status_of c word level = call c 0xc4000004 word level 0
+
+-- of which domain that tells that it is off
+abbrev off_told_by : (BoardValue × Event × Said) → Option Node
+off_told_by (b, event, said) = told_off b event said
+
+told_off_by : Gives off_told_by
+    -- a core
+    ((board, status_3, value 1) ⇒ Some (at 0 3)
+    -- a group on three levels
+    ∷ (tall, status_of 0 0x10000 2, value 1) ⇒ Some (at 2 1)
+    -- by the word of 32 bits
+    ∷ (board, call 3 0x84000004 0 0 0, value 1) ⇒ Some (at 0 0)
+    -- not where the answer is ON
+    ∷ (board, status_3, value 0) ⇒ None
+    -- or ON_PENDING
+    ∷ (board, status_3, value 2) ⇒ None
+    -- not where the word names nothing
+    ∷ (board, status_of 0 0x200 0, value 1) ⇒ None
+    -- not where another function answers 1
+    ∷ (board, call 0 0x84000000 0x101 0 0, value 1) ⇒ None
+    -- not where the core stops
+    ∷ (board, status_3, stops nothing) ⇒ None ∷ [])
+unfolding computing
+told_off_by = refl
+
+-- core 3 went off and was powered down, and so is its cluster
+abbrev gone_off : List Record
+gone_off = after board (third_on ++ off 3 ∷ Deliver 1 ∷ Take 1 ∷ [])
+
+-- core 3 runs below its cluster, the last core of the board
+cluster_runs : AllOff board (after board third_on) (at 1 1) → ⊥
+unfolding computing was_powered_down
+cluster_runs all = (all 3 (omega arith) refl).0 refl
+
+-- core 3 was powered down and woken, and it runs before it has entered
+off_and_runs : AllOff board (record { event = version 3; said = value 65537 }
+    ∷ after board (Enter 0 ∷ Wake 3 ∷ [])) (at 0 3) → ⊥
+unfolding computing was_powered_down
+off_and_runs all = (all 3 (omega arith) refl).0 refl
+
+-- core 3 goes off and was not powered down yet; it is in retention, and was not since it entered
+going_off : AllOff board (after board (third_on ++ off 3 ∷ [])) (at 0 3) → ⊥
+unfolding computing was_powered_down
+going_off all = let no : false ≡ true = (all 3 (omega arith) refl).1 in absurd (cc)
+
+-- in life 2 core 3 goes off and was not powered down, though it was in life 1
+going_off_in_life_2 : AllOff board (run_from board gone_off (system_reset 0 ∷ Deliver 2 ∷ Enter 0
+    ∷ on_3 ∷ Deliver 3 ∷ Enter 3 ∷ off 3 ∷ [])) (at 0 3) → ⊥
+unfolding computing was_powered_down
+going_off_in_life_2 all = let no : false ≡ true = (all 3 (omega arith) refl).1 in absurd (cc)
+
+-- whether all cores of a domain are off after these events
+abbrev all_off : (BoardValue × Node × List Event) → Bool
+all_off (b, d, events) = is_all_off b (after b events) d
+
+-- core c goes off, and its Down is message n
+abbrev goes_off : Case → List (Row (BoardValue × Node × List Event) Bool)
+goes_off (b, on, c, o, l, s, n) =
+    -- off: it is powered down
+    (b, at 0 c, on ++ off c ∷ Deliver n ∷ []) ⇒ true
+    -- going_off: it is not yet
+    ∷ (b, at 0 c, on ++ off c ∷ []) ⇒ false
+    -- going_off_again: it was before it entered, and is not yet
+    ∷ (b, at 0 c, on ++ suspend b c ∷ Deliver n ∷ Wake c ∷ Enter c ∷ off c ∷ []) ⇒ false
+    -- off_again: it was before it entered, and is again
+    ∷ (b, at 0 c, on ++ suspend b c ∷ Deliver n ∷ Wake c ∷ Enter c ∷ off c ∷ Deliver (n + 1) ∷ [])
+    ⇒ true
+    ∷ []
+
+each_goes_off : Gives all_off (each goes_off cases)
+unfolding computing was_powered_down
+each_goes_off = refl
+
+-- on three levels the boot core goes off with all domains, and its Down is message i
+abbrev domain_goes_off : (List Event × ℕ × ℕ) → List (Row (BoardValue × Node × List Event) Bool)
+domain_goes_off (on, i, n) =
+    -- off: its domain of a level is powered down
+    (tall, at n 0, on ++ off 0 ∷ Deliver i ∷ []) ⇒ true
+    -- going_off: it is not yet
+    ∷ (tall, at n 0, on ++ off 0 ∷ []) ⇒ false
+    ∷ []
+
+each_domain_goes_off : Gives all_off (each domain_goes_off
+    -- cluster_in_life_2: its cluster, in life 2
+    ((life_2, 1, 1)
+    -- group_in_life_2: its group
+    ∷ (life_2, 1, 2)
+    -- system_in_life_2: the system
+    ∷ (life_2, 1, 3)
+    -- cluster_os_initiated: its cluster, in OS-initiated mode
+    ∷ (os_mode, 0, 1)
+    -- group_os_initiated: its group
+    ∷ (os_mode, 0, 2)
+    -- system_os_initiated: the system
+    ∷ (os_mode, 0, 3)
+    ∷ []))
+unfolding computing was_powered_down
+each_domain_goes_off = refl
+
+domains : Gives all_off
+    -- off_cluster: a cluster is powered down
+    ((board, at 1 1, third_on ++ off 3 ∷ Deliver 1 ∷ []) ⇒ true
+    -- going_off_cluster: it is not yet
+    ∷ (board, at 1 1, third_on ++ off 3 ∷ []) ⇒ false
+    -- off_group: a group
+    ∷ (tall, at 2 1, on_in_group ++ off 3 ∷ Deliver 1 ∷ []) ⇒ true
+    -- going_off_group: it is not yet
+    ∷ (tall, at 2 1, on_in_group ++ off 3 ∷ []) ⇒ false
+    -- off_system: the system
+    ∷ (tall, at 3 0, Enter 0 ∷ call 0 0xc400000e 0x40000200 9 0 ∷ Deliver 0 ∷ []) ⇒ true
+    -- going_off_system: it is not yet
+    ∷ (tall, at 3 0, Enter 0 ∷ call 0 0xc400000e 0x40000200 9 0 ∷ []) ⇒ false
+    -- off_in_a_halting_life: core 3, and the life halts
+    ∷ (board, at 0 3, third_on ++ off 3 ∷ Deliver 1 ∷ system_off 0 ∷ []) ⇒ true
+    -- going_off_in_a_halting_life: it is not yet
+    ∷ (board, at 0 3, third_on ++ off 3 ∷ system_off 0 ∷ []) ⇒ false ∷ [])
+unfolding computing was_powered_down
+domains = refl
