@@ -40,7 +40,7 @@ was_asked : {mpidr level life : ℕ} {m : MessageValue} (p : PlatformValue) (fir
     (domain_above p mpidr level)
     → mode_of p (told p (run_on p [] first) e ∷ run_on p [] first) ≡ Platform
     → OfEach (Beside p (told p (run_on p [] first) e ∷ run_on p [] first) mpidr level one.depth
-        level)
+    level)
     p.description.mpidrs
     → WasAskedFor p (run_on p [] (first ++ e ∷ more)) mpidr level life one.depth
 was_asked {mpidr = mpidr} {level = level} {m = m} p first e more one split sent has live mode all =
@@ -57,7 +57,7 @@ was_asked {mpidr = mpidr} {level = level} {m = m} p first e more one split sent 
       deep = refl;
       live = live;
       asked = subst (λ k. AskFor k p now (mpidr_of p m.core.number) mpidr level one.depth)
-        (sym mode)
+          (sym mode)
           (all_ask p now mpidr level one.depth level all);
     }
 
