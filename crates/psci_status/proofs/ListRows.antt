@@ -2,7 +2,7 @@
 use Rattle.std.proofs.Common.{◌≡◌, inl, inr, ℕ, ◌+◌, ◌*◌, ◌<◌, List, [], ◌∷◌, map, refl, ap, arith}
 use Rattle.psci_fw_spec.specs.declared.status.Status.{Status}
 use Rattle.psci_fw_spec.specs.declared.status.Status.TheVariants.{On, Off, Pending}
-use Rattle.psci_status.specs.Lists.{IsLast, IsWord, Item, Rises, Stands, Within, gain}
+use Rattle.psci_status.specs.Lists.{IsLast, IsWord, Item, Stands, Within, gain}
 use Rattle.psci_status.specs.Lists.{gain_from, gains, item_of, newest, row}
 use Rattle.psci_abi.proofs.Tables.{◌⇒◌, Gives}
 use Rattle.std.proofs.lemmas.Bool.{eqb-false}
@@ -40,9 +40,6 @@ other_status (inr (inr (inr other))) = other
 some_seen : Within written ((2, On) ∷ (0, Off) ∷ [])
 some_seen = (stand.2, omega arith, (stand.0, tt, tt))
 
-nothing_seen : Within written []
-nothing_seen = tt
-
 seen_otherwise :
     ¬ (Within written ((1, Pending) ∷ (1, Pending) ∷ []))
     × ¬ (Within written ((0, Off) ∷ (1, Pending) ∷ []))
@@ -50,12 +47,6 @@ seen_otherwise = (
   λ h. let e : 1 < 1 = h.1 in omega arith,
   λ h. let e : 1 < 0 = h.1 in omega arith,
 )
-
-rising : Rises ((2, On) ∷ (0, Off) ∷ [])
-rising = (omega arith, (tt, tt))
-
-not_rising : Rises ((1, On) ∷ (2, Off) ∷ []) → ⊥
-not_rising h = let e : 2 < 1 = h.0 in omega arith
 
 -- the last that was written is the last that was seen, or an earlier one is
 last_seen : IsLast written ((2, On) ∷ (0, Off) ∷ [])

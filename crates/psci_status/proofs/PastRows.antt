@@ -71,15 +71,6 @@ of_four P a b c d (suc (suc zero)) h = c
 of_four P a b c d (suc (suc (suc zero))) h = d
 of_four P a b c d (suc (suc (suc (suc core)))) h = absurd (omega (arith, h))
 
-before_any_call : IsPast board (values none) first_rows
-unfolding computing
-before_any_call = record {
-  history = [];
-  legal = tt;
-  values = refl;
-  written = of_four _ refl refl refl refl;
-}
-
 abbrev pub past_of_both : IsPast board (values both) both_rows
 unfolding computing
 past_of_both = record {
@@ -143,19 +134,9 @@ not_past v rows steps core p small differ is = eqb-false _ _ differ
     (ap length (p.written core small)
     ∙ ap (λ (h : List FwExchange). length (statuses board h core)) is)
 
--- the status at the life's start is not written; nothing is of core 3; one status is too many
-start_is_not_written : (v : Values)
-    → (p : IsPast board v ((On ∷ Off ∷ []) ∷ (Off ∷ []) ∷ (Off ∷ []) ∷ (Off ∷ []) ∷ []))
-    → p.history ≡ history booted → ⊥
-unfolding computing
-start_is_not_written v p is = not_past v _ booted 0 p (omega arith) refl is
-
+-- nothing is written of core 3
 core_3_is_not_written : (v : Values)
     → (p : IsPast board v ((On ∷ Pending ∷ Off ∷ []) ∷ (Off ∷ []) ∷ (Off ∷ []) ∷ []))
     → p.history ≡ history booted → ⊥
 unfolding computing
 core_3_is_not_written v p is = not_past v _ booted 3 p (omega arith) refl is
-
-once_more : (v : Values) → (p : IsPast board v booted_rows) → p.history ≡ [] → ⊥
-unfolding computing
-once_more v p is = not_past v _ none 0 p (omega arith) refl is

@@ -1,11 +1,10 @@
 -- Worked examples: what a poll has read, and what it answers.
-use Rattle.std.proofs.Common.{◌≡◌, ℕ, ◌<◌, ◌≤◌, pos, negsuc, Bool, true, false, List, [], ◌∷◌}
+use Rattle.std.proofs.Common.{◌≡◌, ℕ, ◌<◌, pos, negsuc, List, [], ◌∷◌}
 use Rattle.std.proofs.Common.{length, None, Some, refl, ap, arith}
-use Rattle.std.specs.Prelude.{nat_lt, if◌then◌else◌}
 use Rattle.psci_abi.specs.declared.code.Code.{Code}
 use Rattle.psci_fw_spec.specs.declared.status.Status.TheVariants.{Off, On, Pending}
 use Rattle.psci_fw_spec.specs.AffinityInfo.{status_code}
-use Rattle.psci_status.specs.Lists.{Item, gain, row}
+use Rattle.psci_status.specs.Lists.{Item, row}
 use Rattle.psci_status.specs.Polls.{IsLoaded, IsPolledAs}
 use Rattle.std.proofs.lemmas.Bool.{eqb-false}
 
@@ -27,27 +26,13 @@ is_loaded = (
   (5, refl, ([], refl), (tt, tt)),
 )
 
-gain_one : (b : Bool) (i j : Item) → length (if b then i ∷ j ∷ [] else j ∷ []) ≤ 2
-gain_one true i j = omega arith
-gain_one false i j = omega arith
-
 -- the number of the last status
 abbrev last_code : List Item → ℕ
 last_code [] = 9
 last_code (i ∷ is) = status_code i.1
 
--- two items more; one of another core
-two_are_loaded :
-    IsLoaded seen (((2, On) ∷ (1, Pending) ∷ (0, Off) ∷ []) ∷ ((0, Off) ∷ []) ∷ []) 0 On
-    → ⊥
-two_are_loaded h =
-    let e : 3 ≡ length (gain (h.0, On) ((0, Off) ∷ [])) =
-    ap (λ (s : List (List Item)). length (row s 0)) h.1 in
-    let few : length (gain (h.0, On) ((0, Off) ∷ [])) ≤ 2 =
-    gain_one (nat_lt 0 h.0) (h.0, On) (0, Off) in
-    omega arith
-
 loaded_otherwise :
+    -- one of another core
     ¬ (IsLoaded seen (((1, On) ∷ (0, Off) ∷ []) ∷ ((1, On) ∷ (0, Off) ∷ []) ∷ []) 0 On)
     -- another status than the last; serials that do not rise
     × ¬ (IsLoaded seen seen 0 On)
@@ -86,14 +71,6 @@ off_instead_of_pending : IsPolledAs (Some (record { number = 1 })) seen
 off_instead_of_pending h =
     let e : 2 ≡ status_code h.0 = ap last_code h.1.2.1 in
     let f : 1 ≡ status_code h.0 = ap status_in h.2 in omega arith
-
--- by the status of another core
-by_another_core : IsPolledAs (Some (record { number = 1 }))
-    (((1, Pending) ∷ []) ∷ ((0, Off) ∷ []) ∷ []) (((1, Pending) ∷ []) ∷ ((0, Off) ∷ []) ∷ [])
-    (record { 0 = pos 2 }) → ⊥
-by_another_core h =
-    let e : 1 ≡ status_code h.0 = ap last_code h.1.2.1 in
-    let f : 2 ≡ status_code h.0 = ap status_in h.2 in omega arith
 
 abbrev absolute : Code → ℕ
 absolute code = elim code.0 [ pos n ↦ n | negsuc n ↦ n ]

@@ -6,8 +6,6 @@ use Rattle.psci_board.specs.Board.{BoardValue, IsBoard, cores}
 use Rattle.psci_fw.specs.Seen.{FirmwareValue, seen}
 use Rattle.psci_fw_spec.specs.declared.call.FwCall.{FwCall}
 use Rattle.psci_fw_spec.specs.declared.status.Status.TheVariants.{Off, On, Pending}
-use Rattle.psci_fw_spec.specs.Exchange.{FwExchange}
-use Rattle.psci_fw_spec.specs.History.{values_of}
 use Rattle.psci_fw_spec.specs.Values.{Values}
 use Rattle.psci_status.specs.Lists.{row}
 use Rattle.psci_status.specs.Polled.{IsNext, IsPast, IsPolled, IsWrittenFrom, PolledView}
@@ -50,17 +48,6 @@ a_word_is_missing f is p = eqb-false 3 4 refl (p.words ∙ ap cores is)
 
 a_core_is_not_counted : (f : FirmwareValue) → f.board ≡ board → IsPolled f (table 4) both_rows 3 → ⊥
 a_core_is_not_counted f is p = eqb-false 3 4 refl (p.count ∙ ap cores is)
-
--- the firmware has another life than the history that is its past
-other_past : (f : FirmwareValue) (p : IsPolled f (table 4) first_rows 4) → f.board ≡ board
-    → p.past.history ≡ [] → (seen f).life ≡ 1 → ⊥
-unfolding computing
-other_past f p is none one =
-    let e : (seen f).life ≡ (values_of f.board p.past.history).life =
-    ap (λ (u : Values). u.life) p.past.values in
-    let zero_life : (values_of f.board p.past.history).life ≡ 0 =
-    ap (λ (h : List FwExchange). (values_of f.board h).life) none in
-    omega (arith, e, zero_life, one)
 
 -- What a call has written -------------------------------------------------------------------------
 
@@ -136,12 +123,6 @@ new_life_is_forgotten : NotWrote both anew both_rows
     ((Pending ∷ On ∷ Pending ∷ Off ∷ []) ∷ (Off ∷ []) ∷ (Off ∷ []) ∷ (On ∷ Pending ∷ Off ∷ []) ∷ [])
 unfolding computing
 new_life_is_forgotten = not_wrote 3 (omega arith) refl
-
--- a status more is written of the caller, of a core whose status did not change
-caller_is_written_again : NotWrote booted asked booted_rows
-    ((On ∷ On ∷ Pending ∷ Off ∷ []) ∷ (Off ∷ []) ∷ (Off ∷ []) ∷ (Pending ∷ Off ∷ []) ∷ [])
-unfolding computing
-caller_is_written_again = not_wrote 0 (omega arith) refl
 
 other_core_is_written : NotWrote booted asked booted_rows
     ((On ∷ Pending ∷ Off ∷ []) ∷ (Pending ∷ Off ∷ []) ∷ (Off ∷ []) ∷ (Pending ∷ Off ∷ []) ∷ [])

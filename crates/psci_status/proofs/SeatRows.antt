@@ -22,10 +22,7 @@ apart t u five four same =
 
 -- Writing -----------------------------------------------------------------------------------------
 
-last_core : (words : StatusWords) (w : Writer) → (table words).words ≡ 4
-    → table_of_writer w ≡ table words → MayWrite words w 3
-last_core words w four same = record { core = omega (arith, four); table = same }
-
+-- there is no such word; the writer is of another table
 no_word_of_it : (words : StatusWords) (w : Writer) → (table words).words ≡ 4 → MayWrite words w 4
     → ⊥
 no_word_of_it words w four h =
@@ -56,10 +53,6 @@ board_of_another_table words w four five h = apart _ _ five four h.table
 
 -- Reading -----------------------------------------------------------------------------------------
 
-read_last_core : (words : StatusWords) (r : Reader) → (table words).words ≡ 4
-    → table_of_reader r ≡ table words → MayRead words r 3
-read_last_core words r four same = record { core = omega (arith, four); table = same }
-
 read_no_word : (words : StatusWords) (r : Reader) → (table words).words ≡ 4 → MayRead words r 4 → ⊥
 read_no_word words r four h =
     let e : 4 < (table words).words = h.core in omega (arith, four, e)
@@ -69,10 +62,6 @@ read_another_table : (words : StatusWords) (r : Reader) → (table words).words 
 read_another_table words r four five h = apart _ _ five four h.table
 
 -- Meeting -----------------------------------------------------------------------------------------
-
-both_of_it : (words : StatusWords) (w : Writer) (r : Reader) → table_of_writer w ≡ table words
-    → table_of_reader r ≡ table words → AreOf words w r
-both_of_it words w r wrote read = record { writer = wrote; reader = read }
 
 writer_of_another : (words : StatusWords) (w : Writer) (r : Reader) → (table words).words ≡ 4
     → (table_of_writer w).words ≡ 5 → AreOf words w r → ⊥
