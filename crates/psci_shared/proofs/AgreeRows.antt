@@ -1,7 +1,7 @@
 -- Worked examples of passes that agree with a book, and for each clause one that breaks just it.
 -- Core 0 asked twice, and core 1 in between.
 use Rattle.std.proofs.lemmas.Bool.{false≢true, eqb-false}
-use Rattle.std.proofs.Common.{◌≡◌, ℕ, zero, suc, ◌<◌, ◌≤◌, List, [], ◌∷◌, map, Bool, true, false}
+use Rattle.std.proofs.Common.{◌≡◌, ℕ, zero, suc, ◌<◌, ◌≤◌, List, [], ◌∷◌, Bool, true, false}
 use Rattle.std.proofs.Common.{refl, ap, arith}
 use Rattle.psci_fw.specs.psci_board.declared.node.Core.{Core}
 use Rattle.psci_fw.specs.psci_fw_spec.declared.call.FwCall.{FwCall}
@@ -14,12 +14,12 @@ use Rattle.psci_messages.specs.declared.start.Cause.TheVariants.{On}
 use Rattle.psci_shared.specs.Entries.{FwEntry, FwItem}
 use Rattle.psci_shared.specs.declared.fault.GatherCause.TheVariants.{Astray, Missing}
 use Rattle.psci_shared.specs.Agree.{Agree, Agrees, AllStandFrom}
-use Rattle.psci_shared.specs.Places.{all_apart, apart, apart_from, has_place, places}
+use Rattle.psci_shared.specs.Places.{all_apart, places}
 use Rattle.psci_shared.specs.Books.{BookView, entry, history_of}
-use Rattle.psci_shared.specs.Views.{entered, item}
+use Rattle.psci_shared.specs.Views.{item}
 use Rattle.psci_shared.specs.Gathers.{IsCause, items_of}
 use Rattle.psci_shared.specs.Passes.{PassView}
-use Rattle.psci_shared.specs.Places.{AllPlaced, places_of, times}
+use Rattle.psci_shared.specs.Places.{AllPlaced}
 use Rattle.psci_board.proofs.Tables.{◌⇒◌, Gives}
 
 abbrev core : ℕ → Core
@@ -72,12 +72,8 @@ both_agree = (
   refl,
 )
 
--- a pass without items agrees with every book
 second_does_not_agree : Agree wide (pass false 0 ours ∷ pass false 0 theirs ∷ []) → ⊥
 second_does_not_agree h = eqb-false 1 0 refl (ap (λ (c : Core). c.number) h.0.1.0.1.0.1.0)
-
-no_items : Agrees wide (pass false 1 [])
-no_items = ((λ is. absurd (false≢true is)), tt)
 
 -- Passes that break one clause --------------------------------------------------------------------
 
@@ -133,37 +129,13 @@ one_place_in_two h = false≢true h.1
 
 -- Places ------------------------------------------------------------------------------------------
 
-found : map (λ place. has_place place (places ours)) (0 ∷ 1 ∷ 2 ∷ 3 ∷ [])
-    ≡ true ∷ false ∷ true ∷ false ∷ []
-found = refl
-
-lists_apart : apart (places ours) (places theirs) ∷ apart (places ours) (places ours)
-    ∷ apart [] (places ours) ∷ []
-    ≡ true ∷ false ∷ true ∷ []
-lists_apart = refl
-
--- the second pass of two others has a place in common, the first has none
-second_is_not_apart : apart_from (places ours)
-    (places theirs ∷ places (item 2 (ask 3) (Fault NoLife) ∷ []) ∷ []) ≡ false
-second_is_not_apart = refl
-
 places_apart : Gives all_apart
     ((places theirs ∷ places ours ∷ [] ∷ []) ⇒ true
     -- not the first pass, but the two behind it
     ∷ (places theirs ∷ places ours ∷ places ours ∷ []) ⇒ false ∷ [])
 places_apart = refl
 
--- each place of the book stands in one of two passes; the place in none, and the one in two
-placed : map (λ place. times place (map places_of (pass false 0 ours ∷ pass false 1 theirs ∷ [])))
-    (0 ∷ 1 ∷ 2 ∷ 3 ∷ []) ≡ 1 ∷ 1 ∷ 1 ∷ 0 ∷ []
-placed = refl
-
-placed_wrongly : map
-    (λ place. times place (map places_of (pass false 0 ours ∷ pass false 0 ours ∷ [])))
-    (0 ∷ 1 ∷ []) ≡ 2 ∷ 0 ∷ []
-placed_wrongly = refl
-
--- both passes have all places of the book, whatever its room; one alone has not
+-- both passes have all places of the book, whatever its room
 all_placed : AllPlaced wide (pass false 0 ours ∷ pass false 1 theirs ∷ [])
 all_placed zero h = refl
 all_placed (suc zero) h = refl
@@ -177,9 +149,6 @@ room_needs_no_place : AllPlaced
     (pass false 0 [] ∷ pass false 1 (item 0 (ask 2) (Fault NotRunning) ∷ []) ∷ [])
 room_needs_no_place zero h = refl
 room_needs_no_place (suc place) h = let k : suc place < 1 = h in absurd (omega arith)
-
-place_in_none : AllPlaced wide (pass false 0 ours ∷ []) → ⊥
-place_in_none h = eqb-false 0 1 refl (h 1 (omega arith))
 
 last_place_in_none : AllPlaced wide
     (pass false 0 (item 0 (ask 1) (Fault NoLife) ∷ []) ∷ pass false 1 theirs ∷ []) → ⊥
@@ -211,8 +180,3 @@ last_call_first : history_of entries
     ∷ record { core = 0; call = ask 1; reply = Fault NoLife } ∷ []
 unfolding history_of
 last_call_first = refl
-
-one_more_entry : entered (record { entries = []; room = 3 })
-    (entry 5 (core 0) (ask 1) (Fault NoLife))
-    ≡ record { entries = entry 5 (core 0) (ask 1) (Fault NoLife) ∷ []; room = 3 }
-one_more_entry = refl

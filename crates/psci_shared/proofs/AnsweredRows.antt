@@ -22,7 +22,7 @@ use Rattle.psci_messages.specs.declared.taken.Taken.TheVariants as takens
 use Rattle.psci_messages.specs.Outstanding.{changes_since, last_message, outstanding}
 use Rattle.psci_status.specs.Lists.{Item, Within}
 use Rattle.psci_shared.specs.Entries.{FwEntry, FwItem}
-use Rattle.psci_shared.specs.Answered.{IsAnswered, IsAnsweredAfter}
+use Rattle.psci_shared.specs.Answered.{IsAnsweredAfter}
 use Rattle.psci_shared.specs.Books.{entry, history_of}
 use Rattle.psci_shared.specs.Passes.{PassView}
 use Rattle.psci_shared.specs.Views.{item}
@@ -122,11 +122,6 @@ core_1_is_asked_on : IsAnsweredAfter board booted 5 (fresh 0)
 unfolding computing
 core_1_is_asked_on = ((refl, tt), refl, refl, on_stands, on_is_last)
 
-so_it_is_answered : IsAnswered board (fresh 0) (pass 0 (item 1 on accepted ∷ []) seen_on) on
-    accepted
-unfolding computing
-so_it_is_answered = (booted, 5, ((refl, tt), refl, refl, on_stands, on_is_last))
-
 -- what tells replies apart: an outcome that sends, one that does not, what was taken, a fault
 abbrev pub kind : FwReply → ℕ
 kind (Out outcome) = elim outcome.message [ None ↦ 1 | Some m ↦ 2 ]
@@ -134,11 +129,6 @@ kind (Taken taken) = 3
 kind (Fault NoLife) = 4
 kind (Fault NotRunning) = 5
 kind (Fault fault) = 6
-
-on_twice : IsAnsweredAfter board after_on 6 (fresh 0)
-    (pass 0 (item 2 on accepted ∷ []) seen_on) on accepted → ⊥
-unfolding computing
-on_twice h = eqb-false 2 1 refl (ap kind h.1)
 
 -- the place of the first item
 abbrev first_place : List FwItem → ℕ

@@ -103,9 +103,6 @@ second_has_not_seen : AllSeen log
     (pass ([] ∷ ((0, Off) ∷ []) ∷ []) ∷ pass ([] ∷ ((2, On) ∷ []) ∷ []) ∷ []) → ⊥
 second_has_not_seen h = not_of_the_log (h.1.0 1)
 
-of_a_core_without_a_log : AllSeen log (pass ([] ∷ [] ∷ ((0, Off) ∷ []) ∷ []) ∷ []) → ⊥
-of_a_core_without_a_log h = (h.0 2).0
-
 -- the statuses after the entries: OFF, ON_PENDING and ON of the boot core in either life
 first_stands : Stand board entries ([] ∷ ((0, Off) ∷ []) ∷ [])
 unfolding statuses history_of

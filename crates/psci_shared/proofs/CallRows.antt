@@ -102,9 +102,6 @@ entered_behind : IsCalled (pass 2 false (old ∷ []) ([] ∷ ((0, Off) ∷ []) �
     (pass 2 false (old ∷ new ∷ []) ([] ∷ ((2, On) ∷ (0, Off) ∷ []) ∷ [])) enter (Fault NoLife)
 entered_behind = (7, [] ∷ ((2, On) ∷ []) ∷ [], refl)
 
-first_of_a_told_pass : IsCalled (pass 0 true [] []) (pass 0 true (new ∷ []) []) enter (Fault NoLife)
-first_of_a_told_pass = (7, [], refl)
-
 -- what a pass had seen it has seen after a call
 length_if : (b : Bool) (i j : Item) → 1 ≤ length (if b then i ∷ j ∷ [] else j ∷ [])
 length_if true i j = omega arith

@@ -14,10 +14,10 @@ use Rattle.psci_ctl.specs.psci_ctl_spec.psci_messages.declared.kind.Kind.TheVari
 use Rattle.psci_ctl.specs.psci_ctl_spec.psci_messages.declared.start.Cause.TheVariants as causes
 use Rattle.psci_shared.specs.declared.fault.PassFault.TheVariants.{NoCore, TooMany, Memory}
 use Rattle.psci_shared.specs.CtlEntries.{CtlEntry, CtlItem}
-use Rattle.psci_shared.specs.CtlAnswered.{IsAnswered, IsAnsweredAfter, IsFull}
+use Rattle.psci_shared.specs.CtlAnswered.{IsAnsweredAfter, IsFull}
 use Rattle.psci_shared.specs.CtlBooks.{BookView, IsTold, entry, history_of}
 use Rattle.psci_shared.specs.CtlLocked.{IsTurnedAway}
-use Rattle.psci_shared.specs.Views.{first, item, told}
+use Rattle.psci_shared.specs.Views.{item, told}
 use Rattle.psci_shared.specs.CtlPasses.{IsNoPass, PassView}
 use Rattle.psci_shared.proofs.TwoCores.{board}
 use Rattle.std.proofs.lemmas.Bool.{eqb-false, false≢true}
@@ -69,24 +69,14 @@ pass items = record { core = tt; room = 4; told_full = false; items = items; see
 
 -- A call -----------------------------------------------------------------------------------------
 
--- the first of all; of another core behind an item; one that is ignored; a message
-first_of_all : IsAnswered board (pass []) (pass (item 0 (reset 1) (reset_to 1) ∷ [])) (reset 1)
-    (reset_to 1)
-unfolding computing
-first_of_all = ([], (tt, refl, refl))
-
 abbrev old : CtlItem
 old = item 0 (reset 1) (reset_to 1)
 
+-- a wake-up behind an item
 core_1_is_woken : IsAnsweredAfter board entries (pass (old ∷ []))
     (pass (old ∷ item 2 (wake 1 2) (woken_to 3) ∷ [])) (wake 1 2) (woken_to 3)
 unfolding computing
 core_1_is_woken = ((refl, omega arith, (refl, omega arith, tt)), refl, refl)
-
-so_it_is_answered : IsAnswered board (pass (old ∷ []))
-    (pass (old ∷ item 2 (wake 1 2) (woken_to 3) ∷ [])) (wake 1 2) (woken_to 3)
-unfolding computing
-so_it_is_answered = (entries, ((refl, omega arith, (refl, omega arith, tt)), refl, refl))
 
 -- a call of a pass without items once both resets were entered: its items then, and its reply
 abbrev Answers : CtlCall → List CtlItem → CtlReply → Type 0
@@ -146,16 +136,11 @@ old_item_is_gone : IsAnsweredAfter board entries (pass (old ∷ []))
 unfolding computing
 old_item_is_gone h = eqb-false 1 2 refl (ap length h.2)
 
--- the entries before are not legal: the last of them, the first
+-- the last of the entries before is not legal
 last_is_illegal : IsAnsweredAfter board (resets 1 ∷ resets 1 ∷ []) (pass [])
     (pass (item 2 (reset 1) (reset_to 3) ∷ [])) (reset 1) (reset_to 3) → ⊥
 unfolding computing
 last_is_illegal h = eqb-false 1 2 refl (ap number_in h.0.0)
-
-first_is_illegal : IsAnsweredAfter board (resets 2 ∷ resets 2 ∷ []) (pass [])
-    (pass (item 2 (reset 1) (reset_to 3) ∷ [])) (reset 1) (reset_to 3) → ⊥
-unfolding computing
-first_is_illegal h = eqb-false 2 1 refl (ap number_in h.0.2.0)
 
 -- Histories ---------------------------------------------------------------------------------------
 
@@ -165,10 +150,6 @@ last_call_first : history_of (entry 5 (wake 1 1) ignored ∷ resets 6 ∷ [])
     ∷ record { call = wake 1 1; reply = ignored } ∷ []
 unfolding history_of
 last_call_first = refl
-
-both_resets : IsTold board [] × IsTold board entries
-unfolding computing
-both_resets = (tt, (refl, omega arith, (refl, omega arith, tt)))
 
 -- the first reset is answered as the second; a wake-up as a message; a core that the board does not
 -- have is reset
@@ -187,10 +168,6 @@ not_so = (
 full_with_two : IsFull board 2 (told (pass []))
 unfolding computing
 full_with_two = (refl, (entries, ((refl, omega arith, (refl, omega arith, tt)), refl)))
-
-full_without_room : IsFull board 0 (told (pass []))
-unfolding computing
-full_without_room = (refl, ([], (tt, refl)))
 
 not_told : IsFull board 2 (pass []) → ⊥
 not_told h = false≢true h.0
@@ -216,9 +193,6 @@ turned_away_otherwise = (
 )
 
 -- Passes -----------------------------------------------------------------------------------------
-
-a_new_pass : pass [] ≡ first tt 4 tt
-a_new_pass = refl
 
 -- they are too many; memory lacks
 no_pass : IsNoPass 1000 TooMany × IsNoPass 999 Memory × IsNoPass 0 Memory

@@ -1,5 +1,5 @@
 -- Worked examples of what a pass is after a call of the power controller.
-use Rattle.std.proofs.Common.{◌≡◌, ℕ, List, [], ◌∷◌, length, Bool, true, false, refl, ap}
+use Rattle.std.proofs.Common.{ℕ, List, [], ◌∷◌, length, Bool, true, false, refl, ap}
 use Rattle.psci_ctl.specs.psci_ctl_spec.declared.call.CtlCall.{CtlCall}
 use Rattle.psci_ctl.specs.psci_ctl_spec.declared.call.CtlCall.TheVariants.{Deliver, Reset, Wake}
 use Rattle.psci_ctl.specs.psci_ctl_spec.declared.delivery.Delivery.TheVariants as deliveries
@@ -79,9 +79,6 @@ new = item 7 reset kicked
 entered_behind : IsCalled (pass false (old ∷ [])) (pass false (old ∷ new ∷ [])) reset kicked
 entered_behind = (7, refl)
 
-first_of_a_told_pass : IsCalled (pass true []) (pass true (new ∷ [])) reset kicked
-first_of_a_told_pass = (7, refl)
-
 called_otherwise :
     ¬ (IsCalled (pass false (old ∷ [])) (pass false (new ∷ old ∷ [])) reset kicked)
     × ¬ (IsCalled (pass false []) (pass false []) reset kicked)
@@ -95,7 +92,3 @@ called_otherwise = (
   λ h. eqb-false 8 5 refl (ap (λ (p : PassView). first_kind p.items) h.1),
   λ h. eqb-false 1 0 refl (ap (λ (p : PassView). first_reply p.items) h.1),
 )
-
--- a pass that was told that the book is full keeps its items and its room
-told_full : told (pass false (old ∷ new ∷ [])) ≡ pass true (old ∷ new ∷ [])
-told_full = refl

@@ -44,12 +44,7 @@ enters life = entry life (record { number = 0 })
 abbrev both_lives : List FwEntry
 both_lives = enters 1 ∷ enters 2 ∷ []
 
--- one that has the values of both lives
-has_both : (f : FirmwareValue) → f.board ≡ board → seen f ≡ values_of board (history_of both_lives)
-    → Has board f both_lives
-has_both f of_board values = (of_board, values)
-
--- it is of another board; it has another life than the entries say; it has their life too soon
+-- it is of another board; it has another life than the entries say
 other_board : (f : FirmwareValue) → f.board.starts ≡ 8 → Has board f [] → ⊥
 other_board f eight h =
     eqb-false 8 9 refl (sym eight ∙ ap (λ (b : BoardValue). b.starts) h.0)
@@ -57,10 +52,6 @@ other_board f eight h =
 other_life : (f : FirmwareValue) → (seen f).life ≡ 1 → Has board f both_lives → ⊥
 unfolding computing
 other_life f one h = eqb-false 1 2 refl (sym one ∙ ap (λ (v : Values). v.life) h.1)
-
-life_before_any : (f : FirmwareValue) → (seen f).life ≡ 1 → Has board f [] → ⊥
-unfolding computing
-life_before_any f one h = eqb-false 1 0 refl (sym one ∙ ap (λ (v : Values). v.life) h.1)
 
 -- A power controller ------------------------------------------------------------------------------
 
@@ -73,30 +64,12 @@ abbrev resets : ℕ → CtlEntry
 resets number = control number (Reset (record { number = 1 }))
     (Kick (Started (record { life = 1; number = number; cause = causes.Reset })))
 
-abbrev both_resets : List CtlEntry
-both_resets = resets 1 ∷ resets 2 ∷ []
-
-has_both_resets : (c : ControllerValue) → c.board ≡ board
-    → seen_of c ≡ controls_after board (controls_of both_resets) → HasControls board c both_resets
-has_both_resets c of_board values = (of_board, values)
-
 other_controllers_board : (c : ControllerValue) → c.board.starts ≡ 8 → HasControls board c [] → ⊥
 other_controllers_board c eight h =
     eqb-false 8 9 refl (sym eight ∙ ap (λ (b : BoardValue). b.starts) h.0)
-
--- it has another start than the entries say, has not counted one, has counted one too soon
-other_start : (c : ControllerValue) → (seen_of c).starts 1 ≡ 1 → HasControls board c both_resets → ⊥
-unfolding counting
-other_start c one h = eqb-false 1 2 refl (sym one ∙ ap (λ (v : Controls). v.starts 1) h.1)
 
 start_not_counted : (c : ControllerValue) → (seen_of c).starts 1 ≡ 0
     → HasControls board c (resets 1 ∷ []) → ⊥
 unfolding counting
 start_not_counted c none h =
     eqb-false 0 1 refl (sym none ∙ ap (λ (v : Controls). v.starts 1) h.1)
-
-start_counted_too_soon : (c : ControllerValue) → (seen_of c).starts 1 ≡ 1
-    → HasControls board c [] → ⊥
-unfolding counting
-start_counted_too_soon c one h =
-    eqb-false 1 0 refl (sym one ∙ ap (λ (v : Controls). v.starts 1) h.1)

@@ -40,10 +40,7 @@ other_is_not_among : IsAmong (0, On) ((0, Off) ∷ []) → ⊥
 other_is_not_among (inl is) = let e : On ≡ Off = ap (λ (i : Item). i.1) is in cc
 other_is_not_among (inr other) = other
 
--- nothing; one call, in which it sees an item more; the call is forgotten
-nothing_done : Goes board (pass [] []) [] (pass [] [])
-nothing_done = refl
-
+-- one call, in which it sees an item more; the call is forgotten
 one_call : Goes board (pass [] (((0, Off) ∷ []) ∷ []))
     (pass (new ∷ []) (((1, On) ∷ (0, Off) ∷ []) ∷ []) ∷ [])
     (pass (new ∷ []) (((1, On) ∷ (0, Off) ∷ []) ∷ []))
@@ -123,11 +120,6 @@ on_at_first : IsInHistory board [] (of 1 0 On) → ⊥
 unfolding statuses history_of
 on_at_first (small, inl is) = let e : On ≡ Off = is.1 in cc
 on_at_first (small, inr other) = other
-
-off_later : IsInHistory board [] (of 1 1 Off) → ⊥
-unfolding statuses history_of
-off_later (small, inl is) = eqb-false 1 0 refl is.0
-off_later (small, inr other) = other
 
 off_core_2 : IsInHistory board [] (of 2 0 Off) → ⊥
 off_core_2 h = let e : 2 < 2 = h.0 in omega arith

@@ -21,8 +21,7 @@ use Rattle.psci_shared.specs.Entries.{FwItem}
 use Rattle.psci_shared.specs.Passes.{IsAffinity, PassView}
 use Rattle.psci_shared.specs.Polls.{Goes, IsAmong, IsOneOf, IsStep}
 use Rattle.psci_shared.specs.Views.{item, told}
-use Rattle.psci_shared.specs.Writing.{Stand}
-use Rattle.psci_shared.proofs.TwoCores.{board, of_two}
+use Rattle.psci_shared.proofs.TwoCores.{board}
 use Rattle.psci_shared.proofs.WritingRows.{asked_on, last_code, status_in}
 
 -- A run ------------------------------------------------------------------------------------------
@@ -63,10 +62,6 @@ poll_of_core_1 = (Pending, (1, (refl, (off ∷ [], refl), (omega arith, (tt, tt)
 
 poll_again : IsAffinity (Some (record { number = 1 })) (told called) (told called) (code 2)
 poll_again = (Pending, (1, (refl, (off ∷ [], refl), (omega arith, (tt, tt)))), refl)
-
-poll_is_a_step : IsStep board new polled
-unfolding core_of
-poll_is_a_step = inr (inr (1, code 2, poll_of_core_1))
 
 -- a poll of core 1, a call, one refused since the book is full, a poll of a word that names no
 -- core, and one by which nothing new is seen
@@ -124,31 +119,14 @@ no_step_back (inr (inl is)) = false≢true (ap (λ (p : PassView). p.told_full) 
 no_step_back (inr (inr is)) = kept_by_polls (core_of board is.0) is.1 is.2
 
 forgotten_on_the_way : Goes board polled (new ∷ polled ∷ []) polled → ⊥
-forgotten_on_the_way h = elim h.0 [
-  | inl is ↦ eqb-false 0 1 refl (ap (λ (p : PassView). length p.items) is.2.2)
-  | inr is ↦ elim is [
-    | inl full ↦ false≢true (ap (λ (p : PassView). p.told_full) full)
-    | inr poll ↦ kept_by_polls (core_of board poll.0) poll.1 poll.2
-  ]
-]
+forgotten_on_the_way h = no_step_back h.0
 
 -- What stands in the history ---------------------------------------------------------------------
-
--- core 0 has entered and asked core 1 on
-seen_stands : Stand board asked_on (told called).seen
-unfolding statuses history_of core_of
-seen_stands = of_two _
-    (inl (refl, refl), omega arith, (inr (inr (inl (refl, refl))), tt, tt))
-    (inl (refl, refl), omega arith, (inr (inl (refl, refl)), tt, tt))
 
 never_on : (serial : ℕ) → Stands (Pending ∷ Off ∷ []) (serial, On) → ⊥
 never_on serial (inl is) = let e : On ≡ Pending = is.1 in cc
 never_on serial (inr (inl is)) = let e : On ≡ Off = is.1 in cc
 never_on serial (inr (inr none)) = none
-
-seen_on : Stand board asked_on ((off ∷ []) ∷ ((1, On) ∷ off ∷ []) ∷ []) → ⊥
-unfolding statuses history_of core_of
-seen_on h = never_on 1 (h 1 (omega arith)).0
 
 -- What was answered ------------------------------------------------------------------------------
 

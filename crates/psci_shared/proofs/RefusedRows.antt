@@ -2,23 +2,21 @@
 -- full.
 use Rattle.std.proofs.Common.{inl, inr, ℕ, List, [], ◌∷◌, length, refl, ap}
 use Rattle.std.proofs.Common.{arith, true}
-use Rattle.psci_fw.specs.psci_fw_spec.declared.fault.FwFault.TheVariants.{NoLife, NotRunning}
-use Rattle.psci_fw.specs.psci_fw_spec.declared.reply.FwReply.{FwReply}
-use Rattle.psci_fw.specs.psci_fw_spec.declared.reply.FwReply.TheVariants.{Out, Taken, Fault}
+use Rattle.psci_fw.specs.psci_fw_spec.declared.fault.FwFault.TheVariants.{NotRunning}
+use Rattle.psci_fw.specs.psci_fw_spec.declared.reply.FwReply.TheVariants.{Fault}
 use Rattle.psci_fw.specs.psci_fw_spec.declared.status.Status.TheVariants.{On, Off, Pending}
-use Rattle.psci_messages.specs.declared.taken.Taken.TheVariants as takens
 use Rattle.psci_status.specs.Lists.{Item}
 use Rattle.psci_shared.specs.Entries.{FwEntry, FwItem}
 use Rattle.psci_shared.specs.declared.fault.CallFault.TheVariants.{BookFull, Fw}
-use Rattle.psci_shared.specs.Answered.{IsAnswered, IsAnsweredAfter, IsAnsweredFault, IsFull}
+use Rattle.psci_shared.specs.Answered.{IsAnsweredAfter, IsAnsweredFault, IsFull}
 use Rattle.psci_shared.specs.Books.{BookView, IsTold, entry}
 use Rattle.psci_shared.specs.Locked.{IsTurnedAway}
 use Rattle.psci_shared.specs.Passes.{PassView}
 use Rattle.psci_shared.specs.Room.{Fill}
 use Rattle.psci_shared.specs.Views.{item, told}
 use Rattle.psci_shared.specs.Writing.{AllLast, Stand}
-use Rattle.psci_shared.proofs.AnsweredRows.{accepted, booted, boots, computing, enters}
-use Rattle.psci_shared.proofs.AnsweredRows.{fresh, kind, on, pass, seen_on, starts, take, version}
+use Rattle.psci_shared.proofs.AnsweredRows.{boots, computing, enters}
+use Rattle.psci_shared.proofs.AnsweredRows.{fresh, kind, pass, starts, take, version}
 use Rattle.psci_shared.proofs.AnsweredRows.{version_told, was_old}
 use Rattle.psci_shared.proofs.TwoCores.{board, of_two}
 use Rattle.std.proofs.lemmas.Bool.{eqb-false, false≢true}
@@ -59,78 +57,17 @@ as_core_0 : IsAnsweredAfter board twice 7 (pass 1 (item_0 ∷ []) [])
 unfolding computing
 as_core_0 h = eqb-false 1 5 refl (ap kind h.1)
 
--- of another fault
-another_fault : IsAnsweredAfter board twice 7 (pass 1 (item_0 ∷ []) [])
-    (pass 1 (item_0 ∷ item 2 version (Fault NoLife) ∷ []) seen_twice) version (Fault NoLife) → ⊥
-unfolding computing
-another_fault h = eqb-false 4 5 refl (ap kind h.1)
-
 -- what the firmware refuses is entered as well
 refused_without_an_item : IsAnsweredFault board 9 (pass 1 (item_0 ∷ []) [])
     (pass 1 (item_0 ∷ []) []) version (Fw NotRunning) → ⊥
 refused_without_an_item h = eqb-false 1 2 refl (ap length h.2.2)
 
--- The first calls --------------------------------------------------------------------------------
-
--- an acknowledgement before any life, and the first entry: the book was empty
-abbrev after_take : List FwEntry
-after_take = entry 0 (record { number = 1 }) take was_old ∷ []
-
-abbrev seen_first : List (List Item)
-seen_first = ((0, Off) ∷ []) ∷ ((0, Off) ∷ []) ∷ []
-
-take_stands : Stand board after_take seen_first
-unfolding computing
-take_stands = of_two _ (inl (refl, refl), tt, tt) (inl (refl, refl), tt, tt)
-
-take_is_last : AllLast board after_take seen_first
-unfolding computing
-take_is_last = of_two _ ([], refl) ([], refl)
-
-nothing_was_sent : IsAnswered board (fresh 1) (pass 1 (item 0 take was_old ∷ []) seen_first) take
-    was_old
-unfolding computing
-nothing_was_sent = ([], 0, (tt, refl, refl, take_stands, take_is_last))
-
--- whether an acknowledgement was used
-abbrev is_used : FwReply → ℕ
-is_used (Taken takens.Used) = 1
-is_used (Taken takens.Old) = 0
-is_used (Out outcome) = 2
-is_used (Fault fault) = 3
-
-used_without_a_message : IsAnsweredAfter board [] 0 (fresh 1)
-    (pass 1 (item 0 take (Taken takens.Used) ∷ []) seen_first) take (Taken takens.Used) → ⊥
-unfolding computing
-used_without_a_message h = eqb-false 1 0 refl (ap is_used h.1)
+-- After no history -------------------------------------------------------------------------------
 
 abbrev seen_entry : List (List Item)
 seen_entry = ((2, On) ∷ (1, Pending) ∷ (0, Off) ∷ []) ∷ ((0, Off) ∷ []) ∷ []
 
-entry_stands : Stand board booted seen_entry
-unfolding computing
-entry_stands = of_two _ (
-  inl (refl, refl),
-  omega arith,
-  (
-    inr (inl (refl, refl)),
-    omega arith,
-    (inr (inr (inl (refl, refl))), tt, tt),
-  ),
-)
-    (inl (refl, refl), tt, tt)
-
-entry_is_last : AllLast board booted seen_entry
-unfolding computing
-entry_is_last = of_two _ ((1, Pending) ∷ (0, Off) ∷ [], refl) ([], refl)
-
-first_entry : IsAnsweredAfter board [] 1 (fresh 0)
-    (pass 0 (item 0 (starts 1) boots ∷ []) seen_entry) (starts 1) boots
-unfolding computing
-first_entry = (tt, refl, refl, entry_stands, entry_is_last)
-
--- the entries before tell no legal history: a version was told before any life; so it is with the
--- first of two
+-- the entries before tell no legal history: a version was told before any life
 abbrev early : FwEntry
 early = entry 0 (record { number = 0 }) version version_told
 
@@ -138,11 +75,6 @@ illegal : IsAnsweredAfter board (early ∷ []) 1 (fresh 0)
     (pass 0 (item 1 (starts 1) boots ∷ []) seen_entry) (starts 1) boots → ⊥
 unfolding computing
 illegal h = eqb-false 1 4 refl (ap kind h.0.0)
-
-first_is_illegal : IsAnsweredAfter board (early ∷ enters 1 ∷ []) 1 (fresh 0)
-    (pass 0 (item 2 on accepted ∷ []) seen_on) on accepted → ⊥
-unfolding computing
-first_is_illegal h = eqb-false 1 4 refl (ap kind h.0.1.0)
 
 -- A book that is full ----------------------------------------------------------------------------
 
@@ -152,14 +84,6 @@ told_pass = told (fresh 1)
 full_with_two : IsFull board 2 told_pass
 unfolding computing
 full_with_two = (refl, (twice, ((refl, (refl, tt)), refl)))
-
-full_without_room : IsFull board 0 told_pass
-unfolding computing
-full_without_room = (refl, ([], (tt, refl)))
-
-so_the_book_was_full : IsAnsweredFault board 2 (fresh 1) told_pass version BookFull
-unfolding computing
-so_the_book_was_full = (refl, (twice, ((refl, (refl, tt)), refl)))
 
 -- there is room for one more, or there was for one less; the entries are not legal
 do_not_fill : ¬ (Fill (IsTold board) 3 twice) × ¬ (Fill (IsTold board) 1 twice)

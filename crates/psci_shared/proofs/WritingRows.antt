@@ -1,9 +1,8 @@
 -- Worked examples of what is written of each core, of what a pass has seen of it, and of what a
 -- pass is answered. The boot core has entered: it was OFF, ON_PENDING and ON, and the others are
 -- OFF.
-use Rattle.std.proofs.Common.{◌≡◌, inl, inr, ℕ, ◌<◌, ◌≤◌, List, [], ◌∷◌, length, pos}
-use Rattle.std.proofs.Common.{negsuc, Bool, true, false, refl, ap, arith, Some, None}
-use Rattle.std.specs.Prelude.{nat_lt, if◌then◌else◌}
+use Rattle.std.proofs.Common.{inl, inr, ℕ, ◌<◌, List, [], ◌∷◌, length, pos}
+use Rattle.std.proofs.Common.{negsuc, false, refl, ap, arith, Some, None}
 use Rattle.psci_fw.specs.psci_abi.declared.code.Code.{Code}
 use Rattle.psci_fw.specs.psci_fw_spec.declared.call.FwCall.TheVariants.{Enter, Smc}
 use Rattle.psci_fw.specs.psci_fw_spec.declared.outcome.Act.TheVariants as acts
@@ -14,7 +13,7 @@ use Rattle.psci_fw.specs.psci_fw_spec.Statuses.{statuses}
 use Rattle.psci_messages.specs.declared.kind.Kind.TheVariants.{Start}
 use Rattle.psci_messages.specs.declared.start.Cause.TheVariants.{Boot}
 use Rattle.psci_messages.specs.Message.{MessageValue}
-use Rattle.psci_status.specs.Lists.{Item, gain, row}
+use Rattle.psci_status.specs.Lists.{Item, row}
 use Rattle.psci_shared.specs.Entries.{FwEntry}
 use Rattle.psci_shared.specs.Books.{entry, history_of}
 use Rattle.psci_shared.specs.Passes.{IsAffinity, IsRead, PassView}
@@ -54,11 +53,6 @@ written_otherwise = (
   λ h. eqb-false 1 3 refl (ap length (h 0 (omega arith))),
   λ h. eqb-false 0 1 refl (ap length (h 1 (omega arith))),
 )
-
--- before any call
-first_written : IsWritten board ((Off ∷ []) ∷ (Off ∷ []) ∷ []) []
-unfolding statuses history_of
-first_written = of_two _ refl refl
 
 -- the same, and core 0 asks core 1 on
 abbrev pub asked_on : List FwEntry
@@ -103,14 +97,6 @@ pass seen =
 abbrev before : PassView
 before = pass (((0, Off) ∷ []) ∷ ((0, Off) ∷ []) ∷ [])
 
-pending_is_read : IsAffinity (Some (record { number = 0 })) before
-    (pass (((1, Pending) ∷ (0, Off) ∷ []) ∷ ((0, Off) ∷ []) ∷ [])) (record { 0 = pos 2 })
-pending_is_read = (Pending, (1, (refl, ((0, Off) ∷ [], refl), (omega arith, (tt, tt)))), refl)
-
--- the word holds what the pass has seen last
-nothing_new_is_read : IsAffinity (Some (record { number = 0 })) before before (record { 0 = pos 1 })
-nothing_new_is_read = (Off, (0, (refl, ([], refl), (tt, tt))), refl)
-
 -- of core 1, of which it has seen less than of core 0
 pending_is_read_of_core_1 : IsAffinity (Some (record { number = 1 }))
     (pass (((2, On) ∷ []) ∷ ((0, Off) ∷ []) ∷ []))
@@ -147,20 +133,6 @@ last_code (i ∷ is) = status_code i.1
 -- another status than the last that was seen
 another_is_read : IsRead before before 0 On → ⊥
 another_is_read h = eqb-false 1 0 refl (ap last_code h.1.1.1)
-
-gain_one : (b : Bool) (i j : Item) → length (if b then i ∷ j ∷ [] else j ∷ []) ≤ 2
-gain_one true i j = omega arith
-gain_one false i j = omega arith
-
--- two items more, and one more of another core
-two_are_read : IsRead before
-    (pass (((2, On) ∷ (1, Pending) ∷ (0, Off) ∷ []) ∷ ((0, Off) ∷ []) ∷ [])) 0 On → ⊥
-two_are_read h =
-    let e : 3 ≡ length (gain (h.0, On) ((0, Off) ∷ [])) =
-    ap (λ (p : PassView). length (row p.seen 0)) h.1.0 in
-    let few : length (gain (h.0, On) ((0, Off) ∷ [])) ≤ 2 = gain_one (nat_lt 0 h.0) (h.0, On)
-    (0, Off) in
-    omega arith
 
 other_core_is_read : IsRead before
     (pass (((1, On) ∷ (0, Off) ∷ []) ∷ ((1, On) ∷ (0, Off) ∷ []) ∷ [])) 0 On → ⊥
