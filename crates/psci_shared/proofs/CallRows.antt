@@ -45,7 +45,7 @@ stops = Out (record { act = acts.Stop; message = None })
 abbrev used : FwReply
 used = Taken takens.Used
 
--- What fits ---------------------------------------------------------------------------------------
+-- What fits --------------------------------------------------------------------------------------
 
 fitting : Fits (ask 1) stops × Fits (ask 1) (Fault NotRunning) × Fits enter stops
     × Fits enter (Fault NoLife) × Fits take used
@@ -55,7 +55,7 @@ not_fitting : ¬ (Fits (ask 1) used) × ¬ (Fits enter used) × ¬ (Fits take st
     × ¬ (Fits take (Fault NoLife))
 not_fitting = (λ h. h, λ h. h, λ h. h, λ h. h)
 
--- A call that was entered -------------------------------------------------------------------------
+-- A call that was entered ------------------------------------------------------------------------
 
 -- the place of the first item
 abbrev first_place : List FwItem → ℕ
@@ -137,7 +137,7 @@ called_otherwise = (
   λ h. eqb-false 3 1 refl (ap (λ (p : PassView). last_reply p.items) h.2),
 )
 
--- A call that was refused -------------------------------------------------------------------------
+-- A call that was refused ------------------------------------------------------------------------
 
 refused_so : IsRefused (pass 1 false (old ∷ []) []) (pass 1 true (old ∷ []) []) enter BookFull
     × IsRefused (pass 1 false (old ∷ []) []) (pass 1 false (old ∷ new ∷ []) []) enter (Fw NoLife)
@@ -155,7 +155,7 @@ refused_otherwise = (
   λ h. eqb-false 0 1 refl (ap (λ (p : PassView). length p.items) h.2),
 )
 
--- What was seen last ------------------------------------------------------------------------------
+-- What was seen last -----------------------------------------------------------------------------
 
 abbrev rows : List (List Item)
 rows = ((4, On) ∷ (1, Off) ∷ []) ∷ ((2, Pending) ∷ []) ∷ [] ∷ []

@@ -1,6 +1,7 @@
--- Worked examples of how a call through a pass was answered, of histories that are told, of a new
--- pass and of why none is made.
-use Rattle.std.proofs.Common.{◌≡◌, ℕ, ◌<◌, List, [], ◌∷◌, length, false, refl, ap, arith}
+-- Worked examples of how a call of the power controller through a pass was answered, of histories
+-- that are told, of why no pass is made, and of what a pass is after a call.
+use Rattle.std.proofs.Common.{◌≡◌, ℕ, ◌<◌, List, [], ◌∷◌, length, false, refl, ap, arith, Bool}
+use Rattle.std.proofs.Common.{true}
 use Rattle.psci_ctl.specs.psci_ctl_spec.Effects.{effect_of}
 use Rattle.psci_ctl.specs.psci_ctl_spec.History.{values_of}
 use Rattle.psci_ctl.specs.psci_ctl_spec.Replies.{delivery_of, reply, reset_of, wake_of}
@@ -18,9 +19,9 @@ use Rattle.psci_shared.specs.CtlAnswered.{IsAnsweredAfter, IsFull}
 use Rattle.psci_shared.specs.CtlBooks.{BookView, IsTold, entry, history_of}
 use Rattle.psci_shared.specs.CtlLocked.{IsTurnedAway}
 use Rattle.psci_shared.specs.Views.{item, told}
-use Rattle.psci_shared.specs.CtlPasses.{IsNoPass, PassView}
+use Rattle.psci_shared.specs.CtlPasses.{IsNoPass, PassView, Fits, IsCalled}
 use Rattle.psci_shared.proofs.TwoCores.{board}
-use Rattle.std.proofs.lemmas.Bool.{eqb-false, false≢true}
+use Rattle.std.proofs.lemmas.Bool.{eqb-false, false≢true, true≢false}
 
 -- what an example unfolds to compute a reply
 unfoldable computing : Unit {0}
@@ -142,7 +143,7 @@ last_is_illegal : IsAnsweredAfter board (resets 1 ∷ resets 1 ∷ []) (pass [])
 unfolding computing
 last_is_illegal h = eqb-false 1 2 refl (ap number_in h.0.0)
 
--- Histories ---------------------------------------------------------------------------------------
+-- Histories --------------------------------------------------------------------------------------
 
 -- the last call of a book is the first of its history
 last_call_first : history_of (entry 5 (wake 1 1) ignored ∷ resets 6 ∷ [])
@@ -201,3 +202,59 @@ no_pass = (refl, omega arith, omega arith)
 -- they are not too many; another reason comes first; no pass of a power controller is for a core
 a_pass : ¬ (IsNoPass 999 TooMany) × ¬ (IsNoPass 1000 Memory) × ¬ (IsNoPass 3 NoCore)
 a_pass = (eqb-false 999 1000 refl, λ h. let e : 1000 < 1000 = h in omega arith, λ h. h)
+
+-- What fits --------------------------------------------------------------------------------------
+
+all_fit : Fits deliver passed_over × Fits (wake 3 1) ignored × Fits (reset 2) ignored
+all_fit = (tt, tt, tt)
+
+none_fits : ¬ (Fits deliver ignored) × ¬ (Fits (wake 3 1) passed_over)
+    × ¬ (Fits (reset 2) passed_over)
+none_fits = (λ h. h, λ h. h, λ h. h)
+
+-- A call that was entered ------------------------------------------------------------------------
+
+-- what tells calls and replies apart
+abbrev kind : CtlCall → ℕ
+kind (Wake core halted) = halted
+kind (Reset core) = 8
+kind (Deliver message) = 9
+
+abbrev is_kick : CtlReply → ℕ
+is_kick (Kick kick) = 1
+is_kick (Delivery delivery) = 0
+
+abbrev first_kind : List CtlItem → ℕ
+first_kind [] = 99
+first_kind (i ∷ is) = kind i.call
+
+abbrev first_reply : List CtlItem → ℕ
+first_reply [] = 99
+first_reply (i ∷ is) = is_kick i.reply
+
+abbrev pass_of : Bool → List CtlItem → PassView
+pass_of told items = record { core = tt; room = 4; told_full = told; items = items; seen = tt }
+
+abbrev third : CtlItem
+third = item 3 (wake 3 1) ignored
+
+abbrev new : CtlItem
+new = item 7 (reset 2) ignored
+
+entered_behind : IsCalled (pass_of false (third ∷ [])) (pass_of false (third ∷ new ∷ []))
+    (reset 2) ignored
+entered_behind = (7, refl)
+
+called_otherwise :
+    ¬ (IsCalled (pass_of false (third ∷ [])) (pass_of false (new ∷ third ∷ [])) (reset 2) ignored)
+    × ¬ (IsCalled (pass_of false []) (pass_of false []) (reset 2) ignored)
+    × ¬ (IsCalled (pass_of false []) (pass_of true (new ∷ [])) (reset 2) ignored)
+    × ¬ (IsCalled (pass_of false []) (pass_of false (new ∷ [])) (wake 3 5) ignored)
+    × ¬ (IsCalled (pass_of false []) (pass_of false (new ∷ [])) (reset 2) passed_over)
+called_otherwise = (
+  λ h. eqb-false 7 3 refl (ap (λ (p : PassView). first_place p.items) h.1),
+  λ h. eqb-false 0 1 refl (ap (λ (p : PassView). length p.items) h.1),
+  λ h. true≢false (ap (λ (p : PassView). p.told_full) h.1),
+  λ h. eqb-false 8 5 refl (ap (λ (p : PassView). first_kind p.items) h.1),
+  λ h. eqb-false 1 0 refl (ap (λ (p : PassView). first_reply p.items) h.1),
+)
