@@ -1,8 +1,9 @@
--- Worked examples of passes that agree with a book, and for each clause one that breaks just it.
--- Core 0 asked twice, and core 1 in between.
+-- Worked examples of passes that agree with a book, and for each clause one that breaks just it; of
+-- what passes count in the ledger, and of what is known of the book where one of them was told that
+-- it is full. Core 0 asked twice, and core 1 in between.
+use Rattle.std.proofs.Common.{◌≡◌, ℕ, zero, suc, ◌<◌, ◌≤◌, List, [], ◌∷◌, Bool, true, false, refl}
+use Rattle.std.proofs.Common.{ap, arith}
 use Rattle.std.proofs.lemmas.Bool.{false≢true, eqb-false}
-use Rattle.std.proofs.Common.{◌≡◌, ℕ, zero, suc, ◌<◌, ◌≤◌, List, [], ◌∷◌, map, Bool, true, false}
-use Rattle.std.proofs.Common.{refl, ap, arith}
 use Rattle.psci_fw.specs.psci_board.declared.node.Core.{Core}
 use Rattle.psci_fw.specs.psci_fw_spec.declared.call.FwCall.{FwCall}
 use Rattle.psci_fw.specs.psci_fw_spec.declared.call.FwCall.TheVariants.{Smc, Enter, Take}
@@ -14,13 +15,14 @@ use Rattle.psci_messages.specs.declared.start.Cause.TheVariants.{On}
 use Rattle.psci_shared.specs.Entries.{FwEntry, FwItem}
 use Rattle.psci_shared.specs.declared.fault.GatherCause.TheVariants.{Astray, Missing}
 use Rattle.psci_shared.specs.Agree.{Agree, Agrees, AllStandFrom}
-use Rattle.psci_shared.specs.Places.{all_apart, apart, apart_from, has_place, places}
+use Rattle.psci_shared.specs.Places.{all_apart, places, AllPlaced}
 use Rattle.psci_shared.specs.Books.{BookView, entry, history_of}
-use Rattle.psci_shared.specs.Views.{entered, item}
+use Rattle.psci_shared.specs.Views.{item}
 use Rattle.psci_shared.specs.Gathers.{IsCause, items_of}
 use Rattle.psci_shared.specs.Passes.{PassView}
-use Rattle.psci_shared.specs.Places.{AllPlaced, places_of, times}
 use Rattle.psci_board.proofs.Tables.{◌⇒◌, Gives}
+use Rattle.psci_shared.specs.CtlPasses.{PassView as ControllerPass}
+use Rattle.psci_shared.specs.Told.{FullIfTold, IsTotal, counted, told_of}
 
 abbrev core : ℕ → Core
 core n = record { number = n }
@@ -52,7 +54,7 @@ ours = item 0 (ask 1) (Fault NoLife) ∷ item 2 (ask 3) (Fault NoLife) ∷ []
 abbrev theirs : List FwItem
 theirs = item 1 (ask 2) (Fault NotRunning) ∷ []
 
--- Passes that agree -------------------------------------------------------------------------------
+-- Passes that agree ------------------------------------------------------------------------------
 
 ours_stand : AllStandFrom entries (core 0) 0 ours
 ours_stand = ((omega arith, (refl, refl, refl)), ((omega arith, (refl, refl, refl)), tt))
@@ -72,14 +74,10 @@ both_agree = (
   refl,
 )
 
--- a pass without items agrees with every book
 second_does_not_agree : Agree wide (pass false 0 ours ∷ pass false 0 theirs ∷ []) → ⊥
 second_does_not_agree h = eqb-false 1 0 refl (ap (λ (c : Core). c.number) h.0.1.0.1.0.1.0)
 
-no_items : Agrees wide (pass false 1 [])
-no_items = ((λ is. absurd (false≢true is)), tt)
-
--- Passes that break one clause --------------------------------------------------------------------
+-- Passes that break one clause -------------------------------------------------------------------
 
 told_while_there_is_room : Agrees wide (pass true 0 ours) → ⊥
 told_while_there_is_room h = eqb-false 3 4 refl (h.0 refl)
@@ -131,21 +129,7 @@ strays = (
 one_place_in_two : Agree wide (pass false 1 theirs ∷ pass false 1 theirs ∷ []) → ⊥
 one_place_in_two h = false≢true h.1
 
--- Places ------------------------------------------------------------------------------------------
-
-found : map (λ place. has_place place (places ours)) (0 ∷ 1 ∷ 2 ∷ 3 ∷ [])
-    ≡ true ∷ false ∷ true ∷ false ∷ []
-found = refl
-
-lists_apart : apart (places ours) (places theirs) ∷ apart (places ours) (places ours)
-    ∷ apart [] (places ours) ∷ []
-    ≡ true ∷ false ∷ true ∷ []
-lists_apart = refl
-
--- the second pass of two others has a place in common, the first has none
-second_is_not_apart : apart_from (places ours)
-    (places theirs ∷ places (item 2 (ask 3) (Fault NoLife) ∷ []) ∷ []) ≡ false
-second_is_not_apart = refl
+-- Places -----------------------------------------------------------------------------------------
 
 places_apart : Gives all_apart
     ((places theirs ∷ places ours ∷ [] ∷ []) ⇒ true
@@ -153,17 +137,7 @@ places_apart : Gives all_apart
     ∷ (places theirs ∷ places ours ∷ places ours ∷ []) ⇒ false ∷ [])
 places_apart = refl
 
--- each place of the book stands in one of two passes; the place in none, and the one in two
-placed : map (λ place. times place (map places_of (pass false 0 ours ∷ pass false 1 theirs ∷ [])))
-    (0 ∷ 1 ∷ 2 ∷ 3 ∷ []) ≡ 1 ∷ 1 ∷ 1 ∷ 0 ∷ []
-placed = refl
-
-placed_wrongly : map
-    (λ place. times place (map places_of (pass false 0 ours ∷ pass false 0 ours ∷ [])))
-    (0 ∷ 1 ∷ []) ≡ 2 ∷ 0 ∷ []
-placed_wrongly = refl
-
--- both passes have all places of the book, whatever its room; one alone has not
+-- both passes have all places of the book, whatever its room
 all_placed : AllPlaced wide (pass false 0 ours ∷ pass false 1 theirs ∷ [])
 all_placed zero h = refl
 all_placed (suc zero) h = refl
@@ -178,14 +152,11 @@ room_needs_no_place : AllPlaced
 room_needs_no_place zero h = refl
 room_needs_no_place (suc place) h = let k : suc place < 1 = h in absurd (omega arith)
 
-place_in_none : AllPlaced wide (pass false 0 ours ∷ []) → ⊥
-place_in_none h = eqb-false 0 1 refl (h 1 (omega arith))
-
 last_place_in_none : AllPlaced wide
     (pass false 0 (item 0 (ask 1) (Fault NoLife) ∷ []) ∷ pass false 1 theirs ∷ []) → ⊥
 last_place_in_none h = eqb-false 0 1 refl (h 2 (omega arith))
 
--- Gathering ---------------------------------------------------------------------------------------
+-- Gathering --------------------------------------------------------------------------------------
 
 three_items : items_of (pass false 0 ours ∷ pass false 1 theirs ∷ []) ≡ 3
 three_items = refl
@@ -202,7 +173,7 @@ none_is_missing h = let e : 1 < 1 = h.1 in omega arith
 not_astray : IsCause Astray (Agree wide (pass false 0 ours ∷ [])) 1 1 → ⊥
 not_astray h = h ((((λ is. absurd (false≢true is)), ours_stand), tt), refl)
 
--- Books -------------------------------------------------------------------------------------------
+-- Books ------------------------------------------------------------------------------------------
 
 -- the last call of a book is the first of its history
 last_call_first : history_of entries
@@ -212,7 +183,58 @@ last_call_first : history_of entries
 unfolding history_of
 last_call_first = refl
 
-one_more_entry : entered (record { entries = []; room = 3 })
-    (entry 5 (core 0) (ask 1) (Fault NoLife))
-    ≡ record { entries = entry 5 (core 0) (ask 1) (Fault NoLife) ∷ []; room = 3 }
-one_more_entry = refl
+abbrev told_pass : Bool → ControllerPass
+told_pass is_told = record { core = tt; room = 4; told_full = is_told; items = []; seen = tt }
+
+-- What is counted --------------------------------------------------------------------------------
+
+of_a_pass : counted 3 false ∷ counted 3 true ∷ counted 0 true ∷ []
+    ≡ 3 ∷ 0x1000000000003 ∷ 0x1000000000000 ∷ []
+of_a_pass = refl
+
+how_many_were_told : told_of (told_pass true ∷ told_pass false ∷ told_pass true ∷ []) ≡ 2
+how_many_were_told = refl
+
+-- there is room for one more; the book is full, and nobody was told, one pass was, two were
+are_totals : IsTotal 3 4 3 × IsTotal 3 3 3 × IsTotal 3 3 0x1000000000003
+    × IsTotal 3 3 0x2000000000003
+are_totals = (
+  (omega arith, refl, λ less. absurd (omega (arith, less))),
+  (omega arith, refl, λ less. refl),
+  (omega arith, refl, λ less. refl),
+  (omega arith, refl, λ less. refl),
+)
+
+-- fewer than there are entries; more, and nobody was told; a pass was told while there was room
+-- for one more, or once there were more than there is room for
+are_no_totals : ¬ (IsTotal 3 4 2) × ¬ (IsTotal 3 3 4) × ¬ (IsTotal 3 4 0x1000000000003)
+    × ¬ (IsTotal 3 2 0x1000000000003)
+are_no_totals = (
+  λ h. omega (arith, h.0),
+  λ h. eqb-false 1 0 refl h.1,
+  λ h. eqb-false 3 4 refl (h.2 (omega arith)),
+  λ h. eqb-false 3 2 refl (h.2 (omega arith)),
+)
+
+-- What is known of the book ----------------------------------------------------------------------
+
+abbrev nobody : List ControllerPass
+nobody = []
+
+full_where_told : FullIfTold 3 3 (told_pass true ∷ told_pass false ∷ [])
+    × FullIfTold 3 4 (told_pass false ∷ told_pass false ∷ []) × FullIfTold 3 4 nobody
+full_where_told = (
+  (λ is. refl, (λ is. refl, tt)),
+  (λ is. absurd (false≢true is), (λ is. absurd (false≢true is), tt)),
+  tt,
+)
+
+-- the first was told, or the last, while there was room; there are more entries
+told_with_room : ¬ (FullIfTold 3 4 (told_pass true ∷ told_pass false ∷ []))
+    × ¬ (FullIfTold 3 4 (told_pass false ∷ told_pass true ∷ []))
+    × ¬ (FullIfTold 3 2 (told_pass true ∷ []))
+told_with_room = (
+  λ h. eqb-false 3 4 refl (h.0 refl),
+  λ h. eqb-false 3 4 refl (h.1.0 refl),
+  λ h. eqb-false 3 2 refl (h.0 refl),
+)

@@ -1,6 +1,6 @@
--- Worked examples of how a call through a pass was answered.
-use Rattle.std.proofs.Common.{◌≡◌, inl, inr, ℕ, List, [], ◌∷◌, length, pos}
-use Rattle.std.proofs.Common.{false, refl, ap, arith, None, Some}
+-- Worked examples of how a call through a pass was answered or refused, and of a book that is full.
+use Rattle.std.proofs.Common.{◌≡◌, inl, inr, ℕ, List, [], ◌∷◌, length, pos, false, refl, ap, arith}
+use Rattle.std.proofs.Common.{None, Some, true}
 use Rattle.psci_fw.specs.psci_board.Board.{core_of}
 use Rattle.psci_fw.specs.psci_fw_spec.After.{after}
 use Rattle.psci_fw.specs.psci_fw_spec.Answer.{answer}
@@ -22,13 +22,16 @@ use Rattle.psci_messages.specs.declared.taken.Taken.TheVariants as takens
 use Rattle.psci_messages.specs.Outstanding.{changes_since, last_message, outstanding}
 use Rattle.psci_status.specs.Lists.{Item, Within}
 use Rattle.psci_shared.specs.Entries.{FwEntry, FwItem}
-use Rattle.psci_shared.specs.Answered.{IsAnswered, IsAnsweredAfter}
-use Rattle.psci_shared.specs.Books.{entry, history_of}
+use Rattle.psci_shared.specs.Answered.{IsAnsweredAfter, IsAnsweredFault, IsFull}
+use Rattle.psci_shared.specs.Books.{entry, history_of, BookView, IsTold}
 use Rattle.psci_shared.specs.Passes.{PassView}
-use Rattle.psci_shared.specs.Views.{item}
+use Rattle.psci_shared.specs.Views.{item, told}
 use Rattle.psci_shared.specs.Writing.{AllLast, Stand}
 use Rattle.psci_shared.proofs.TwoCores.{board, of_two}
-use Rattle.std.proofs.lemmas.Bool.{eqb-false}
+use Rattle.std.proofs.lemmas.Bool.{eqb-false, false≢true}
+use Rattle.psci_shared.specs.declared.fault.CallFault.TheVariants.{BookFull, Fw}
+use Rattle.psci_shared.specs.Locked.{IsTurnedAway}
+use Rattle.psci_shared.specs.Room.{Fill}
 
 -- what an example unfolds to compute an answer, and the statuses after it
 unfoldable pub computing : Unit {0}
@@ -122,11 +125,6 @@ core_1_is_asked_on : IsAnsweredAfter board booted 5 (fresh 0)
 unfolding computing
 core_1_is_asked_on = ((refl, tt), refl, refl, on_stands, on_is_last)
 
-so_it_is_answered : IsAnswered board (fresh 0) (pass 0 (item 1 on accepted ∷ []) seen_on) on
-    accepted
-unfolding computing
-so_it_is_answered = (booted, 5, ((refl, tt), refl, refl, on_stands, on_is_last))
-
 -- what tells replies apart: an outcome that sends, one that does not, what was taken, a fault
 abbrev pub kind : FwReply → ℕ
 kind (Out outcome) = elim outcome.message [ None ↦ 1 | Some m ↦ 2 ]
@@ -134,11 +132,6 @@ kind (Taken taken) = 3
 kind (Fault NoLife) = 4
 kind (Fault NotRunning) = 5
 kind (Fault fault) = 6
-
-on_twice : IsAnsweredAfter board after_on 6 (fresh 0)
-    (pass 0 (item 2 on accepted ∷ []) seen_on) on accepted → ⊥
-unfolding computing
-on_twice h = eqb-false 2 1 refl (ap kind h.1)
 
 -- the place of the first item
 abbrev first_place : List FwItem → ℕ
@@ -206,4 +199,102 @@ other_answers = (
   λ h. not_off_then (h.3 0 (omega arith)),
   λ h. eqb-false 0 1 refl (ap last (h.4 1 (omega arith)).1),
   λ h. eqb-false 1 2 refl (ap last (h.4 0 (omega arith)).1),
+)
+
+-- Core 1 is refused, in life 2 -------------------------------------------------------------------
+
+abbrev twice : List FwEntry
+twice = enters 1 ∷ enters 2 ∷ []
+
+abbrev refused : List FwEntry
+refused = enters 1 ∷ enters 2 ∷ entry 7 (record { number = 1 }) version (Fault NotRunning) ∷ []
+
+abbrev seen_twice : List (List Item)
+seen_twice = ((4, On) ∷ (2, On) ∷ []) ∷ ((0, Off) ∷ []) ∷ []
+
+refused_stands : Stand board refused seen_twice
+unfolding computing
+refused_stands = of_two _
+    (inl (refl, refl), omega arith, (inr (inr (inl (refl, refl))), tt, tt))
+    (inl (refl, refl), tt, tt)
+
+refused_is_last : AllLast board refused seen_twice
+unfolding computing
+refused_is_last = of_two _ ((2, On) ∷ [], refl) ([], refl)
+
+-- behind an item that the pass has
+abbrev item_0 : FwItem
+item_0 = item 0 take was_old
+
+core_1_is_refused : IsAnsweredFault board 9 (pass 1 (item_0 ∷ []) [])
+    (pass 1 (item_0 ∷ item 2 version (Fault NotRunning) ∷ []) seen_twice) version (Fw NotRunning)
+unfolding computing
+core_1_is_refused = (twice, 7, ((refl, (refl, tt)), refl, refl, refused_stands, refused_is_last))
+
+-- the caller counts, and not core 0
+as_core_0 : IsAnsweredAfter board twice 7 (pass 1 (item_0 ∷ []) [])
+    (pass 1 (item_0 ∷ item 2 version version_told ∷ []) seen_twice) version version_told → ⊥
+unfolding computing
+as_core_0 h = eqb-false 1 5 refl (ap kind h.1)
+
+-- what the firmware refuses is entered as well
+refused_without_an_item : IsAnsweredFault board 9 (pass 1 (item_0 ∷ []) [])
+    (pass 1 (item_0 ∷ []) []) version (Fw NotRunning) → ⊥
+refused_without_an_item h = eqb-false 1 2 refl (ap length h.2.2)
+
+-- After no history -------------------------------------------------------------------------------
+
+abbrev seen_entry : List (List Item)
+seen_entry = ((2, On) ∷ (1, Pending) ∷ (0, Off) ∷ []) ∷ ((0, Off) ∷ []) ∷ []
+
+-- the entries before tell no legal history: a version was told before any life
+abbrev early : FwEntry
+early = entry 0 (record { number = 0 }) version version_told
+
+illegal : IsAnsweredAfter board (early ∷ []) 1 (fresh 0)
+    (pass 0 (item 1 (starts 1) boots ∷ []) seen_entry) (starts 1) boots → ⊥
+unfolding computing
+illegal h = eqb-false 1 4 refl (ap kind h.0.0)
+
+-- A book that is full ----------------------------------------------------------------------------
+
+abbrev told_pass : PassView
+told_pass = told (fresh 1)
+
+full_with_two : IsFull board 2 told_pass
+unfolding computing
+full_with_two = (refl, (twice, ((refl, (refl, tt)), refl)))
+
+-- there is room for one more, or there was for one less; the entries are not legal
+do_not_fill : ¬ (Fill (IsTold board) 3 twice) × ¬ (Fill (IsTold board) 1 twice)
+    × ¬ (Fill (IsTold board) 1 (early ∷ []))
+unfolding computing
+do_not_fill = (
+  λ h. eqb-false 2 3 refl h.1,
+  λ h. eqb-false 2 1 refl h.1,
+  λ h. eqb-false 1 4 refl (ap kind h.0.0),
+)
+
+-- nobody told the pass; it was told before, and not by this call
+not_told : ¬ (IsFull board 2 (fresh 1))
+    × ¬ (IsAnsweredFault board 2 told_pass (fresh 1) version BookFull)
+not_told = (λ h. false≢true h.0, λ h. false≢true h.0)
+
+abbrev book_of : ℕ → BookView
+book_of room = record { entries = twice; room = room }
+
+-- what a call leaves then; the pass is told, the book stays, and it was full
+turned_away : IsTurnedAway board 2 (book_of 2) (book_of 2) (fresh 1)
+    (record (fresh 1) { told_full = true })
+unfolding computing
+turned_away = (refl, refl, refl, (refl, (refl, tt)))
+
+turned_away_otherwise :
+    ¬ (IsTurnedAway board 3 (book_of 3) (book_of 3) (fresh 1)
+    (record (fresh 1) { told_full = true }))
+    × ¬ (IsTurnedAway board 2 (book_of 2) (book_of 1) (fresh 1)
+    (record (fresh 1) { told_full = true }))
+turned_away_otherwise = (
+  λ h. eqb-false 2 3 refl h.2,
+  λ h. eqb-false 1 2 refl (ap (λ (b : BookView). b.room) h.0),
 )

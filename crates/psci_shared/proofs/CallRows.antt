@@ -45,7 +45,7 @@ stops = Out (record { act = acts.Stop; message = None })
 abbrev used : FwReply
 used = Taken takens.Used
 
--- What fits ---------------------------------------------------------------------------------------
+-- What fits --------------------------------------------------------------------------------------
 
 fitting : Fits (ask 1) stops × Fits (ask 1) (Fault NotRunning) × Fits enter stops
     × Fits enter (Fault NoLife) × Fits take used
@@ -55,7 +55,7 @@ not_fitting : ¬ (Fits (ask 1) used) × ¬ (Fits enter used) × ¬ (Fits take st
     × ¬ (Fits take (Fault NoLife))
 not_fitting = (λ h. h, λ h. h, λ h. h, λ h. h)
 
--- A call that was entered -------------------------------------------------------------------------
+-- A call that was entered ------------------------------------------------------------------------
 
 -- the place of the first item
 abbrev first_place : List FwItem → ℕ
@@ -102,9 +102,6 @@ entered_behind : IsCalled (pass 2 false (old ∷ []) ([] ∷ ((0, Off) ∷ []) �
     (pass 2 false (old ∷ new ∷ []) ([] ∷ ((2, On) ∷ (0, Off) ∷ []) ∷ [])) enter (Fault NoLife)
 entered_behind = (7, [] ∷ ((2, On) ∷ []) ∷ [], refl)
 
-first_of_a_told_pass : IsCalled (pass 0 true [] []) (pass 0 true (new ∷ []) []) enter (Fault NoLife)
-first_of_a_told_pass = (7, [], refl)
-
 -- what a pass had seen it has seen after a call
 length_if : (b : Bool) (i j : Item) → 1 ≤ length (if b then i ∷ j ∷ [] else j ∷ [])
 length_if true i j = omega arith
@@ -140,7 +137,7 @@ called_otherwise = (
   λ h. eqb-false 3 1 refl (ap (λ (p : PassView). last_reply p.items) h.2),
 )
 
--- A call that was refused -------------------------------------------------------------------------
+-- A call that was refused ------------------------------------------------------------------------
 
 refused_so : IsRefused (pass 1 false (old ∷ []) []) (pass 1 true (old ∷ []) []) enter BookFull
     × IsRefused (pass 1 false (old ∷ []) []) (pass 1 false (old ∷ new ∷ []) []) enter (Fw NoLife)
@@ -158,7 +155,7 @@ refused_otherwise = (
   λ h. eqb-false 0 1 refl (ap (λ (p : PassView). length p.items) h.2),
 )
 
--- What was seen last ------------------------------------------------------------------------------
+-- What was seen last -----------------------------------------------------------------------------
 
 abbrev rows : List (List Item)
 rows = ((4, On) ∷ (1, Off) ∷ []) ∷ ((2, Pending) ∷ []) ∷ [] ∷ []

@@ -1,6 +1,7 @@
--- Worked examples of how a call through a pass was answered, of histories that are told, of a new
--- pass and of why none is made.
-use Rattle.std.proofs.Common.{◌≡◌, ℕ, ◌<◌, List, [], ◌∷◌, length, false, refl, ap, arith}
+-- Worked examples of how a call of the power controller through a pass was answered, of histories
+-- that are told, of why no pass is made, and of what a pass is after a call.
+use Rattle.std.proofs.Common.{◌≡◌, ℕ, ◌<◌, List, [], ◌∷◌, length, false, refl, ap, arith, Bool}
+use Rattle.std.proofs.Common.{true}
 use Rattle.psci_ctl.specs.psci_ctl_spec.Effects.{effect_of}
 use Rattle.psci_ctl.specs.psci_ctl_spec.History.{values_of}
 use Rattle.psci_ctl.specs.psci_ctl_spec.Replies.{delivery_of, reply, reset_of, wake_of}
@@ -14,13 +15,13 @@ use Rattle.psci_ctl.specs.psci_ctl_spec.psci_messages.declared.kind.Kind.TheVari
 use Rattle.psci_ctl.specs.psci_ctl_spec.psci_messages.declared.start.Cause.TheVariants as causes
 use Rattle.psci_shared.specs.declared.fault.PassFault.TheVariants.{NoCore, TooMany, Memory}
 use Rattle.psci_shared.specs.CtlEntries.{CtlEntry, CtlItem}
-use Rattle.psci_shared.specs.CtlAnswered.{IsAnswered, IsAnsweredAfter, IsFull}
+use Rattle.psci_shared.specs.CtlAnswered.{IsAnsweredAfter, IsFull}
 use Rattle.psci_shared.specs.CtlBooks.{BookView, IsTold, entry, history_of}
 use Rattle.psci_shared.specs.CtlLocked.{IsTurnedAway}
-use Rattle.psci_shared.specs.Views.{first, item, told}
-use Rattle.psci_shared.specs.CtlPasses.{IsNoPass, PassView}
+use Rattle.psci_shared.specs.Views.{item, told}
+use Rattle.psci_shared.specs.CtlPasses.{IsNoPass, PassView, Fits, IsCalled}
 use Rattle.psci_shared.proofs.TwoCores.{board}
-use Rattle.std.proofs.lemmas.Bool.{eqb-false, false≢true}
+use Rattle.std.proofs.lemmas.Bool.{eqb-false, false≢true, true≢false}
 
 -- what an example unfolds to compute a reply
 unfoldable computing : Unit {0}
@@ -69,24 +70,14 @@ pass items = record { core = tt; room = 4; told_full = false; items = items; see
 
 -- A call -----------------------------------------------------------------------------------------
 
--- the first of all; of another core behind an item; one that is ignored; a message
-first_of_all : IsAnswered board (pass []) (pass (item 0 (reset 1) (reset_to 1) ∷ [])) (reset 1)
-    (reset_to 1)
-unfolding computing
-first_of_all = ([], (tt, refl, refl))
-
 abbrev old : CtlItem
 old = item 0 (reset 1) (reset_to 1)
 
+-- a wake-up behind an item
 core_1_is_woken : IsAnsweredAfter board entries (pass (old ∷ []))
     (pass (old ∷ item 2 (wake 1 2) (woken_to 3) ∷ [])) (wake 1 2) (woken_to 3)
 unfolding computing
 core_1_is_woken = ((refl, omega arith, (refl, omega arith, tt)), refl, refl)
-
-so_it_is_answered : IsAnswered board (pass (old ∷ []))
-    (pass (old ∷ item 2 (wake 1 2) (woken_to 3) ∷ [])) (wake 1 2) (woken_to 3)
-unfolding computing
-so_it_is_answered = (entries, ((refl, omega arith, (refl, omega arith, tt)), refl, refl))
 
 -- a call of a pass without items once both resets were entered: its items then, and its reply
 abbrev Answers : CtlCall → List CtlItem → CtlReply → Type 0
@@ -146,18 +137,13 @@ old_item_is_gone : IsAnsweredAfter board entries (pass (old ∷ []))
 unfolding computing
 old_item_is_gone h = eqb-false 1 2 refl (ap length h.2)
 
--- the entries before are not legal: the last of them, the first
+-- the last of the entries before is not legal
 last_is_illegal : IsAnsweredAfter board (resets 1 ∷ resets 1 ∷ []) (pass [])
     (pass (item 2 (reset 1) (reset_to 3) ∷ [])) (reset 1) (reset_to 3) → ⊥
 unfolding computing
 last_is_illegal h = eqb-false 1 2 refl (ap number_in h.0.0)
 
-first_is_illegal : IsAnsweredAfter board (resets 2 ∷ resets 2 ∷ []) (pass [])
-    (pass (item 2 (reset 1) (reset_to 3) ∷ [])) (reset 1) (reset_to 3) → ⊥
-unfolding computing
-first_is_illegal h = eqb-false 2 1 refl (ap number_in h.0.2.0)
-
--- Histories ---------------------------------------------------------------------------------------
+-- Histories --------------------------------------------------------------------------------------
 
 -- the last call of a book is the first of its history
 last_call_first : history_of (entry 5 (wake 1 1) ignored ∷ resets 6 ∷ [])
@@ -165,10 +151,6 @@ last_call_first : history_of (entry 5 (wake 1 1) ignored ∷ resets 6 ∷ [])
     ∷ record { call = wake 1 1; reply = ignored } ∷ []
 unfolding history_of
 last_call_first = refl
-
-both_resets : IsTold board [] × IsTold board entries
-unfolding computing
-both_resets = (tt, (refl, omega arith, (refl, omega arith, tt)))
 
 -- the first reset is answered as the second; a wake-up as a message; a core that the board does not
 -- have is reset
@@ -187,10 +169,6 @@ not_so = (
 full_with_two : IsFull board 2 (told (pass []))
 unfolding computing
 full_with_two = (refl, (entries, ((refl, omega arith, (refl, omega arith, tt)), refl)))
-
-full_without_room : IsFull board 0 (told (pass []))
-unfolding computing
-full_without_room = (refl, ([], (tt, refl)))
 
 not_told : IsFull board 2 (pass []) → ⊥
 not_told h = false≢true h.0
@@ -217,9 +195,6 @@ turned_away_otherwise = (
 
 -- Passes -----------------------------------------------------------------------------------------
 
-a_new_pass : pass [] ≡ first tt 4 tt
-a_new_pass = refl
-
 -- they are too many; memory lacks
 no_pass : IsNoPass 1000 TooMany × IsNoPass 999 Memory × IsNoPass 0 Memory
 no_pass = (refl, omega arith, omega arith)
@@ -227,3 +202,59 @@ no_pass = (refl, omega arith, omega arith)
 -- they are not too many; another reason comes first; no pass of a power controller is for a core
 a_pass : ¬ (IsNoPass 999 TooMany) × ¬ (IsNoPass 1000 Memory) × ¬ (IsNoPass 3 NoCore)
 a_pass = (eqb-false 999 1000 refl, λ h. let e : 1000 < 1000 = h in omega arith, λ h. h)
+
+-- What fits --------------------------------------------------------------------------------------
+
+all_fit : Fits deliver passed_over × Fits (wake 3 1) ignored × Fits (reset 2) ignored
+all_fit = (tt, tt, tt)
+
+none_fits : ¬ (Fits deliver ignored) × ¬ (Fits (wake 3 1) passed_over)
+    × ¬ (Fits (reset 2) passed_over)
+none_fits = (λ h. h, λ h. h, λ h. h)
+
+-- A call that was entered ------------------------------------------------------------------------
+
+-- what tells calls and replies apart
+abbrev kind : CtlCall → ℕ
+kind (Wake core halted) = halted
+kind (Reset core) = 8
+kind (Deliver message) = 9
+
+abbrev is_kick : CtlReply → ℕ
+is_kick (Kick kick) = 1
+is_kick (Delivery delivery) = 0
+
+abbrev first_kind : List CtlItem → ℕ
+first_kind [] = 99
+first_kind (i ∷ is) = kind i.call
+
+abbrev first_reply : List CtlItem → ℕ
+first_reply [] = 99
+first_reply (i ∷ is) = is_kick i.reply
+
+abbrev pass_of : Bool → List CtlItem → PassView
+pass_of told items = record { core = tt; room = 4; told_full = told; items = items; seen = tt }
+
+abbrev third : CtlItem
+third = item 3 (wake 3 1) ignored
+
+abbrev new : CtlItem
+new = item 7 (reset 2) ignored
+
+entered_behind : IsCalled (pass_of false (third ∷ [])) (pass_of false (third ∷ new ∷ []))
+    (reset 2) ignored
+entered_behind = (7, refl)
+
+called_otherwise :
+    ¬ (IsCalled (pass_of false (third ∷ [])) (pass_of false (new ∷ third ∷ [])) (reset 2) ignored)
+    × ¬ (IsCalled (pass_of false []) (pass_of false []) (reset 2) ignored)
+    × ¬ (IsCalled (pass_of false []) (pass_of true (new ∷ [])) (reset 2) ignored)
+    × ¬ (IsCalled (pass_of false []) (pass_of false (new ∷ [])) (wake 3 5) ignored)
+    × ¬ (IsCalled (pass_of false []) (pass_of false (new ∷ [])) (reset 2) passed_over)
+called_otherwise = (
+  λ h. eqb-false 7 3 refl (ap (λ (p : PassView). first_place p.items) h.1),
+  λ h. eqb-false 0 1 refl (ap (λ (p : PassView). length p.items) h.1),
+  λ h. true≢false (ap (λ (p : PassView). p.told_full) h.1),
+  λ h. eqb-false 8 5 refl (ap (λ (p : PassView). first_kind p.items) h.1),
+  λ h. eqb-false 1 0 refl (ap (λ (p : PassView). first_reply p.items) h.1),
+)

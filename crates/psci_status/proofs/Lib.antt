@@ -5,11 +5,8 @@ pub mod Last
 pub mod ListRows
 pub mod Lists
 pub mod Past
-mod PastRows
-mod PollRows
 mod PolledRows
 pub mod RuleRows
 mod SeatRows
-pub mod StepRows
 pub mod Steps
 pub mod Told

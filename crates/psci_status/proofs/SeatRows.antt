@@ -20,12 +20,9 @@ apart : (t u : TableId) → t.words ≡ 5 → u.words ≡ 4 → t ≡ u → ⊥
 apart t u five four same =
     eqb-false 5 4 refl (sym five ∙ ap (λ (it : TableId). it.words) same ∙ four)
 
--- Writing -----------------------------------------------------------------------------------------
+-- Writing ----------------------------------------------------------------------------------------
 
-last_core : (words : StatusWords) (w : Writer) → (table words).words ≡ 4
-    → table_of_writer w ≡ table words → MayWrite words w 3
-last_core words w four same = record { core = omega (arith, four); table = same }
-
+-- there is no such word; the writer is of another table
 no_word_of_it : (words : StatusWords) (w : Writer) → (table words).words ≡ 4 → MayWrite words w 4
     → ⊥
 no_word_of_it words w four h =
@@ -54,11 +51,7 @@ board_of_another_table : (words : StatusWords) (w : Writer) → (table words).wo
     → (table_of_writer w).words ≡ 5 → WritesBoard words w board 4 → ⊥
 board_of_another_table words w four five h = apart _ _ five four h.table
 
--- Reading -----------------------------------------------------------------------------------------
-
-read_last_core : (words : StatusWords) (r : Reader) → (table words).words ≡ 4
-    → table_of_reader r ≡ table words → MayRead words r 3
-read_last_core words r four same = record { core = omega (arith, four); table = same }
+-- Reading ----------------------------------------------------------------------------------------
 
 read_no_word : (words : StatusWords) (r : Reader) → (table words).words ≡ 4 → MayRead words r 4 → ⊥
 read_no_word words r four h =
@@ -68,11 +61,7 @@ read_another_table : (words : StatusWords) (r : Reader) → (table words).words 
     → (table_of_reader r).words ≡ 5 → MayRead words r 3 → ⊥
 read_another_table words r four five h = apart _ _ five four h.table
 
--- Meeting -----------------------------------------------------------------------------------------
-
-both_of_it : (words : StatusWords) (w : Writer) (r : Reader) → table_of_writer w ≡ table words
-    → table_of_reader r ≡ table words → AreOf words w r
-both_of_it words w r wrote read = record { writer = wrote; reader = read }
+-- Meeting ----------------------------------------------------------------------------------------
 
 writer_of_another : (words : StatusWords) (w : Writer) (r : Reader) → (table words).words ≡ 4
     → (table_of_writer w).words ≡ 5 → AreOf words w r → ⊥
