@@ -1,6 +1,6 @@
 -- Worked examples: the answer text of a run, and what a replay prints by its end; and for each
 -- clause something that breaks it.
-use Rattle.std.proofs.Common.{◌≡◌, ℕ, zero, suc, List, [], ◌∷◌, ◌++◌, length}
+use Rattle.std.proofs.Common.{◌≡◌, ℕ, zero, suc, List, [], ◌∷◌, length}
 use Rattle.std.proofs.Common.{Option, None, Some, Ok, Err, Result, refl, ap}
 use Rattle.std.specs.Prelude.{codes}
 use Rattle.std.specs.Fmt.{digits}
@@ -30,9 +30,6 @@ first_or_0 (b ∷ bs) = b
 
 -- Texts -----------------------------------------------------------------------------------------
 
-text_of_none : text_of [] ≡ []
-text_of_none = refl
-
 -- the oldest first, numbered from 1
 text_of_three : text_of (record { event = Wake 3; said = Ignored }
     ∷ record { event = Take 7; said = Absent } ∷ entered 0 0x40000000 ∷ [])
@@ -53,10 +50,6 @@ illegal_run answers run differs is = differs is.legal
 unsafe_run : (answers : List ℕ) (run : ScriptRun) → ¬ (AlwaysSafe run.board run.past)
     → IsSafeText answers run → ⊥
 unsafe_run answers run differs is = differs is.safe
-
--- without a board nothing is answered, and with one just the run is
-unanswered : SaysRun [] None
-unanswered = refl
 
 answered_without_a_board : SaysRun (codes "1 absent\n") None → ⊥
 answered_without_a_board h = eqb-false 9 0 refl (ap length h)
@@ -81,14 +74,6 @@ shorter = text (board ∷ codes "enter 9" ∷ [])
 whole_text : AllSafe → WritesRun script (Some (55 ∷ [])) (Some (55 ∷ answers))
 unfolding answering
 whole_text safe = (safe script, refl)
-
-text_before : WritesRun script (Some (55 ∷ [])) (Some (answers ++ 55 ∷ [])) → ⊥
-unfolding answering
-text_before h = eqb-false 49 55 refl (ap first_or_0 h.1)
-
-text_lacks : WritesRun script (Some (55 ∷ [])) (Some (55 ∷ [])) → ⊥
-unfolding answering
-text_lacks h = eqb-false 1 19 refl (ap length h.1)
 
 -- it is that of a run
 text_of_no_run : (bytes : List ℕ) (before after : Option (List ℕ))
@@ -131,15 +116,6 @@ prints_no_board : AllSafe → Prints (Err (Board Grammar)) (Some (codes "board (
     (Some (55 ∷ [])) (Some (55 ∷ []))
 unfolding answering
 prints_no_board safe = (safe (codes "board (2 2"), refl)
-
-prints_after_no_board : Prints (Err (Board Grammar)) (Some (codes "board (2 2")) (Some [])
-    (Some (codes "1 absent\n")) → ⊥
-unfolding answering
-prints_after_no_board h = eqb-false 9 0 refl (ap length h.1)
-
--- a source whose bytes are not known
-prints_of_unknown : (before after : Option (List ℕ)) → Prints whole None before after
-prints_of_unknown before after = tt
 
 -- where a read failed or memory ran out, some whole lines are answered, and all of them
 some_whole_lines : AllSafe → Prints (Err Read) (Some script) (Some []) (Some (codes "1 absent\n"))

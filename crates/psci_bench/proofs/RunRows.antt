@@ -1,9 +1,7 @@
 -- Worked examples: runs of threads with the numbers of their books, runs with other ones, and the
 -- faults that a run ends by.
-use Rattle.std.proofs.Common.{◌≡◌, ◌<◌, List, [], ◌∷◌, length, ap, ap₂, arith, subst, sym}
-use Rattle.std.proofs.Common.{◌∙◌}
+use Rattle.std.proofs.Common.{◌≡◌, List, [], ◌∷◌, length, ap, arith, subst, sym, ◌∙◌}
 use Rattle.psci_audit.specs.psci_board.Board.{BoardValue}
-use Rattle.psci_audit.specs.Entries.{Entry}
 use Rattle.psci_audit.specs.Merged.{IsFault, IsSound, TicketsFit, history_of, merged}
 use Rattle.psci_audit.specs.Told.{Tells}
 use Rattle.psci_audit.specs.declared.fault.AuditFault.TheVariants as audits
@@ -36,14 +34,6 @@ nothing_asked b t fs cs firmware controller is audited board told unseen = recor
   told = told;
   seen = subst (λ (qs : List Polled). AllInHistory b t.trace.firmware.items qs) (sym unseen) tt;
 }
-
-no_record : (b : BoardValue) (t : Threaded) (f : FwEntry) → t.trace.firmware.items ≡ f ∷ []
-    → t.trace.controller.items ≡ [] → t.world.past ≡ [] → IsAudited b t → ⊥
-unfolding merged
-no_record b t f fs cs past is =
-    subst (λ (h : List Entry). Tells b [] h) (ap₂ history_of fs cs)
-    (subst (λ p. Tells b p
-    (history_of t.trace.firmware.items t.trace.controller.items)) past is.told)
 
 -- two entries of the firmware and one of the power controller: each number is of its own book
 of_its_own_book : (b : BoardValue) (t : Threaded) (f g : FwEntry) (c : CtlEntry)
@@ -88,22 +78,6 @@ illegal_nowhere : (b : BoardValue)
     → IsFound b (Audit (audits.Illegal 3)) → ⊥
 unfolding IsFound
 illegal_nowhere b none found = none found.0 found.1 found.2
-
--- tickets that fall, in the firmware's book or in the power controller's
-falling : (b : BoardValue) (f g : FwEntry) (c d : CtlEntry)
-    → (g.ticket < f.ticket → IsFound b (Audit audits.Ticket))
-    × (d.ticket < c.ticket → IsFound b (Audit audits.Ticket))
-unfolding IsFound
-falling b f g c d = (
-  λ falls. (f ∷ g ∷ [], [], λ fit. let less = fit.firmware.1.0 in omega (arith, less, falls)),
-  λ falls. ([], c ∷ d ∷ [], λ fit. let less = fit.controller.1.0 in omega (arith, less, falls)),
-)
-
-tickets_that_always_fit : (b : BoardValue)
-    → ((fs : List FwEntry) (cs : List CtlEntry) → TicketsFit fs cs)
-    → IsFound b (Audit audits.Ticket) → ⊥
-unfolding IsFound
-tickets_that_always_fit b fit found = found.2 (fit found.0 found.1)
 
 -- the audit itself may run out of memory, as the run may before it
 found_anyway : (b : BoardValue) → IsFound b (Audit audits.Memory) × IsFound b Memory

@@ -27,9 +27,3 @@ seen_on : (b : BoardValue) (t : Threaded) (q : Polled) → t.trace.firmware.item
 seen_on b t q fs qs saw is = not_on b (subst (λ (ss : List Sighting). AreInHistory b [] ss) saw
     (subst (λ (es : List FwEntry). AllInHistory b es (q ∷ [])) fs
     (subst (λ (l : List Polled). AllInHistory b t.trace.firmware.items l) qs is.seen)).0)
-
--- what a thread saw alone, and none of the others
-seen_of_one : (b : BoardValue) (t : Threaded) (p q : Polled) → t.polls.items ≡ p ∷ q ∷ []
-    → (AreInHistory b t.trace.firmware.items q.seen.items → ⊥) → IsAudited b t → ⊥
-seen_of_one b t p q qs none is =
-    none (subst (λ (l : List Polled). AllInHistory b t.trace.firmware.items l) qs is.seen).1.0

@@ -9,9 +9,8 @@ use Rattle.psci_ctl_spec.specs.declared.delivery.Delivery.TheVariants as deliver
 use Rattle.psci_ctl_spec.specs.declared.reply.CtlReply.TheVariants as replies
 use Rattle.psci_ctl_spec.specs.Effects.{Deepens}
 use Rattle.psci_world_spec.proofs.Scripts.{board}
-use Rattle.psci_control.specs.declared.order.Ending.TheVariants.{Off}
-use Rattle.psci_control.specs.declared.order.Order.TheVariants.{Switch, Raise, Acknowledge, End}
-use Rattle.psci_control.specs.Orders.{orders_of, power_orders}
+use Rattle.psci_control.specs.declared.order.Order.TheVariants.{Switch, Raise, Acknowledge}
+use Rattle.psci_control.specs.Orders.{orders_of}
 use Rattle.psci_control.specs.Powered.{powered}
 
 abbrev core_3 : Core
@@ -41,25 +40,12 @@ all_on level place = 0
 abbrev all_down : ℕ → ℕ → ℕ
 all_down level place = 3
 
--- each domain goes to its own depth
-switches_its_own : (powered board (power_orders (Deepens 3 (part 0 3 ∷ part 1 2 ∷ []))) all_on 0 3
-    ∷ powered board (power_orders (Deepens 3 (part 0 3 ∷ part 1 2 ∷ []))) all_on 1 1
-    ∷ powered board (power_orders (Deepens 3 (part 0 3 ∷ part 1 2 ∷ []))) all_on 2 0 ∷ [])
-    ≡ 3 ∷ 2 ∷ 0 ∷ []
-unfolding powered up
-switches_its_own = refl
-
 -- and none of another core does
 switches_no_other : (powered board (Switch core_3 0 3 ∷ []) all_on 0 2
     ∷ powered board (Switch core_3 1 3 ∷ []) all_on 1 0 ∷ [])
     ≡ 0 ∷ 0 ∷ []
 unfolding powered up
 switches_no_other = refl
-
--- the last order for a domain counts
-switches_twice : powered board (Switch core_3 1 3 ∷ Switch core_3 1 1 ∷ []) all_on 1 1 ≡ 1
-unfolding powered up
-switches_twice = refl
 
 raises_its_path : (powered board (Raise core_3 ∷ []) all_down 0 3
     ∷ powered board (Raise core_3 ∷ []) all_down 1 1
@@ -69,8 +55,3 @@ raises_its_path : (powered board (Raise core_3 ∷ []) all_down 0 3
     ≡ 0 ∷ 0 ∷ 0 ∷ 3 ∷ 3 ∷ []
 unfolding powered up
 raises_its_path = refl
-
--- what is no switch leaves power as it is
-leaves_power : powered board (Acknowledge (ack 2) ∷ End Off ∷ []) all_on 0 3 ≡ 0
-unfolding powered up
-leaves_power = refl

@@ -1,6 +1,6 @@
 -- Worked examples: sides of the power controller of which just one thing is not so that holds of a
 -- side, of a port, or after a call.
-use Rattle.std.proofs.Common.{◌+◌, ◌∙◌, ◌∷◌, ◌≡◌, [], ap, arith, false, length, List, map}
+use Rattle.std.proofs.Common.{◌∙◌, ◌∷◌, ◌≡◌, [], ap, arith, false, length, List, map}
 use Rattle.std.proofs.Common.{None, refl, Some, sym, true, ℕ}
 use Rattle.std.proofs.lemmas.Option.{none-some}
 use Rattle.std.proofs.lemmas.Bool.{eqb-false, false≢true}
@@ -8,7 +8,7 @@ use Rattle.psci_board.specs.Board.{cores}
 use Rattle.psci_ctl.specs.declared.level.DomainRow.{DomainRow}
 use Rattle.psci_ctl.specs.declared.row.CoreRow.{CoreRow}
 use Rattle.psci_messages.specs.Message.{MessageValue}
-use Rattle.psci_messages.specs.declared.kind.Kind.TheVariants.{Down, Off}
+use Rattle.psci_messages.specs.declared.kind.Kind.TheVariants.{Down}
 use Rattle.psci_messages.specs.declared.start.Cause.TheVariants as causes
 use Rattle.psci_messages.specs.declared.start.Start.{Start}
 use Rattle.psci_ctl_spec.specs.declared.call.CtlCall.TheVariants as calls
@@ -19,15 +19,12 @@ use Rattle.psci_world_spec.proofs.Scripts.{board, computing, one_core}
 use Rattle.psci_port.specs.Port.{Port, Locks, Unlocks, Calls, Enters, Takes, Finishes, TakesUp}
 use Rattle.psci_port.specs.Port.{Stands, Arms, Sleeps, Delivers, Wakes, Resets, Writes, Rouses}
 use Rattle.psci_port.specs.Port.{Rises, Turns, Opens, Cuts, Restarts, Reboots, cold, gone_to, step}
-use Rattle.psci_port.specs.Port.{words}
 use Rattle.psci_port.specs.Stages.{Armed}
 use Rattle.psci_control.specs.declared.gate.Gate.{Gate}
 use Rattle.psci_control.specs.ControlSide.{ControlValue, IsAsked, IsControlSide}
 use Rattle.psci_control.specs.ControlSide.{IsWaiting, board_of}
-use Rattle.psci_control.specs.ControlSide.{closed, gate_in, heard, holding, orders_in, values_of}
-use Rattle.psci_control.specs.ControlSide.{waits_in, with_gate}
+use Rattle.psci_control.specs.ControlSide.{closed, gate_in, heard, holding, values_of, with_gate}
 use Rattle.psci_control.specs.SideOf.{ArmedLacks, IsNew, IsRightly, IsSideOf, is_apart}
-use Rattle.psci_control.specs.declared.order.Order.TheVariants.{Raise}
 use Rattle.psci_control.proofs.Gates.{blank_at}
 
 -- A side ------------------------------------------------------------------------------------------
@@ -82,18 +79,6 @@ waits_of_no_core is = let low = is.board.core in absurd (omega (arith, low))
 
 -- What is asked -----------------------------------------------------------------------------------
 
--- a Down of the boot core waits until that core was heard to stand
-has_to_wait : (waits_in side (calls.Deliver (down 0))
-    ∷ waits_in (with_gate side 0 (record closed { word = 1 })) (calls.Deliver (down 0)) ∷ [])
-    ≡ true ∷ false ∷ []
-unfolding computing
-has_to_wait = refl
-
-resets_core_3 : orders_in side (calls.Reset (record { number = 3 }))
-    ≡ Raise (record { number = 3 }) ∷ []
-unfolding computing
-resets_core_3 = refl
-
 -- a reset of core 3 starts it, on the same board
 nothing_was_done : IsAsked (calls.Reset (record { number = 3 })) side side → ⊥
 unfolding computing
@@ -110,16 +95,6 @@ unfolding computing
 forgets t at is =
     eqb-false 0 4 refl (ap (λ (gs : List Gate). length gs) (sym at)
     ∙ ap (λ (gs : List Gate). length gs) is.gates)
-
-abbrev off : MessageValue
-off = record { kind = Off; core = record { number = 0 }; life = 1; number = 1; parts = [] }
-
-forgets_not : (t : ControlValue) → t.gates ≡ record closed { opened = 1 } ∷ []
-    → IsAsked (calls.Deliver off) (record side { gates = record closed { opened = 1 } ∷ [] }) t → ⊥
-unfolding computing
-forgets_not t at is =
-    eqb-false 1 0 refl (ap (λ (gs : List Gate). (gate_in gs 0).opened) (sym at)
-    ∙ ap (λ (gs : List Gate). (gate_in gs 0).opened) is.gates)
 
 -- A side of a port --------------------------------------------------------------------------------
 
@@ -144,19 +119,6 @@ other_opened s at is = eqb-false 1 0 refl (sym at ∙ is.opened 3 (omega arith))
 
 later_word : NotOf (λ s. heard s 3 ≡ 1)
 later_word s at is = let low = is.heard 3 (omega arith) in absurd (omega (arith, at, low))
-
--- an earlier word than the core's is one
-earlier_word : (s : ControlValue) → IsSideOf board s (cold board [])
-    → IsSideOf board s (record (cold board []) {
-      row = λ c. record ((cold board []).row c) { stopped = words (cold board []) c + 1 };
-    })
-earlier_word s is = record {
-  board = is.board;
-  values = is.values;
-  written = is.written;
-  opened = is.opened;
-  heard = λ c has. let low = is.heard c has in omega (arith, low);
-}
 
 -- As power comes on -------------------------------------------------------------------------------
 

@@ -1,6 +1,6 @@
 -- Worked examples: sides, doors and firmwares of which just one thing is not so that holds of those
 -- of a port, or after a call.
-use Rattle.std.proofs.Common.{◌+◌, ◌<◌, ◌∙◌, ◌∷◌, ◌≡◌, [], ap, arith, Bool, false, inl, inr, List}
+use Rattle.std.proofs.Common.{◌+◌, ◌<◌, ◌∙◌, ◌∷◌, ◌≡◌, [], ap, arith, Bool, false, inl, inr}
 use Rattle.std.proofs.Common.{None, refl, Some, sym, true, ℕ}
 use Rattle.std.specs.Prelude.{map}
 use Rattle.std.proofs.lemmas.Option.{none-some}
@@ -9,18 +9,13 @@ use Rattle.psci_abi.specs.declared.registers.Regs.{Regs}
 use Rattle.psci_board.specs.Board.{cores}
 use Rattle.psci_board.specs.declared.node.Core.{Core}
 use Rattle.psci_ctl_spec.specs.Effects.{Nothing, Starts, Deepens, Ends, Begins}
-use Rattle.psci_ctl_spec.specs.declared.delivery.Delivery.TheVariants as deliveries
-use Rattle.psci_ctl_spec.specs.declared.kick.Kick.TheVariants as kicks
-use Rattle.psci_ctl_spec.specs.declared.reply.CtlReply.TheVariants as replies
 use Rattle.psci_fw.specs.Seen.{FirmwareValue, seen}
-use Rattle.psci_fw_state.specs.Seen.{message_shown}
 use Rattle.psci_fw_spec.specs.declared.call.FwCall.TheVariants as calls
 use Rattle.psci_fw_spec.specs.After.{after}
 use Rattle.psci_fw_spec.specs.Answer.{answer}
 use Rattle.psci_fw_spec.specs.Lives.{start_of_life}
 use Rattle.psci_fw_spec.specs.Values.{Values}
-use Rattle.psci_messages.specs.Message.{AckValue, MessageValue}
-use Rattle.psci_messages.specs.Slots.{OfCore, OfSystem}
+use Rattle.psci_messages.specs.Message.{AckValue}
 use Rattle.psci_messages.specs.declared.kind.Kind.TheVariants as kinds
 use Rattle.psci_messages.specs.declared.start.Cause.TheVariants as causes
 use Rattle.psci_messages.specs.declared.start.Start.{Start}
@@ -29,19 +24,14 @@ use Rattle.psci_world_spec.specs.declared.said.Said.{Said}
 use Rattle.psci_world_spec.specs.declared.said.Said.TheVariants.{Absent}
 use Rattle.psci_world_spec.specs.Legal.{legal_record}
 use Rattle.psci_world_spec.proofs.Scripts.{board, computing, one_core}
-use Rattle.psci_port.specs.Port.{Act, Locks, Unlocks, Calls, Enters, Takes, Finishes, Port}
-use Rattle.psci_port.specs.Port.{TakesUp, Stands, Arms, Sleeps, Delivers, Wakes, Resets, Writes}
-use Rattle.psci_port.specs.Port.{Rouses, Rises, Turns, Opens, Cuts, Restarts, Reboots, cold}
-use Rattle.psci_port.specs.Port.{gone_to, state, step}
+use Rattle.psci_port.specs.Port.{Locks, Calls, Port, Stands, cold, gone_to, state, step}
 use Rattle.psci_port.specs.Stages as stages
-use Rattle.psci_port.specs.Stages.{Stage, executes, looks}
+use Rattle.psci_port.specs.Stages.{Stage, looks}
 use Rattle.psci_enter.specs.declared.post.Post.TheVariants.{Waiting, Entering, Running, Leaving}
 use Rattle.psci_enter.specs.declared.post.Post.TheVariants.{Armed, Woken}
 use Rattle.psci_enter.specs.declared.side.FirmwareSide.{FirmwareSide}
-use Rattle.psci_enter.specs.Again.{outstanding_in}
 use Rattle.psci_enter.specs.Side.{IsAsked, at, fresh}
-use Rattle.psci_enter.specs.SideOf.{Fits, IsAnew, IsDoor, IsFirmwareOf, IsRightly, IsSideOf}
-use Rattle.psci_enter.specs.SideOf.{is_apart, is_end, is_quiet, is_started}
+use Rattle.psci_enter.specs.SideOf.{Fits, IsAnew, IsDoor, IsFirmwareOf, IsRightly, IsSideOf, is_end}
 
 -- A side of a port -------------------------------------------------------------------------------
 
@@ -141,16 +131,6 @@ of_another_life f life of = elim of.values [
   | inr anew ↦ eqb-false 3 0 refl (sym life ∙ ap (λ (v : Values). v.life) anew.values)
 ]
 
--- What is outstanding, by the numbers of the cores, and behind them of the system
-shown : (f : FirmwareValue) → f.board ≡ board
-    → (outstanding_in f 3 ≡ (seen f).outstanding (OfCore 3))
-    × (outstanding_in f 4 ≡ (seen f).outstanding OfSystem) × (outstanding_in f 5 ≡ None)
-shown f is = (
-  ap (λ b. message_shown b (seen f) 3) is,
-  ap (λ b. message_shown b (seen f) 4) is,
-  ap (λ b. message_shown b (seen f) 5) is,
-)
-
 abbrev ack : AckValue
 ack = record {
   kind = kinds.Down;
@@ -200,35 +180,6 @@ leaves_otherwise is = eqb-false 1 0 refl is.side.used
 
 -- Acts and effects -------------------------------------------------------------------------------
 
-abbrev off : MessageValue
-off = record { kind = kinds.Off; core = core 0; life = 1; number = 1; parts = [] }
-
--- each act, of this core
-abbrev acts : ℕ → List Act
-acts c = Locks c ∷ Unlocks c ∷ Calls c regs Absent ∷ Enters c Absent ∷ Takes c 0 Absent
-    ∷ Finishes c ∷ TakesUp c ∷ Stands c ∷ Arms c ∷ Sleeps c ∷ Delivers 0 off ∷ Wakes c ∷ Resets c
-    ∷ Rouses c ∷ Rises c ∷ Turns c ∷ Writes c ∷ Opens c ∷ Cuts 0 0 ∷ Restarts ∷ Reboots ∷ []
-
-own_acts : map (is_apart 3) (acts 3)
-    ≡ true ∷ true ∷ true ∷ true ∷ true ∷ false ∷ false ∷ false ∷ false ∷ false ∷ false ∷ true
-    ∷ false ∷ false ∷ false ∷ false ∷ true ∷ true ∷ true ∷ false ∷ false ∷ []
-own_acts = refl
-
-other_acts : map (is_apart 3) (acts 0)
-    ≡ true ∷ true ∷ true ∷ true ∷ true ∷ true ∷ true ∷ true ∷ true ∷ true ∷ false ∷ true ∷ true
-    ∷ true ∷ true ∷ true ∷ true ∷ true ∷ true ∷ false ∷ false ∷ []
-other_acts = refl
-
-quiet_acts : map is_quiet (acts 3)
-    ≡ true ∷ true ∷ true ∷ true ∷ true ∷ false ∷ true ∷ true ∷ true ∷ true ∷ false ∷ true ∷ true
-    ∷ true ∷ true ∷ true ∷ true ∷ true ∷ true ∷ false ∷ false ∷ []
-quiet_acts = refl
-
 which_end : map is_end (Nothing ∷ Starts 3 causes.On ∷ Deepens 3 [] ∷ Ends ∷ Begins ∷ [])
     ≡ false ∷ false ∷ false ∷ true ∷ true ∷ []
 which_end = refl
-
-which_starts : map is_started (replies.Kick (kicks.Started (start 2)) ∷ replies.Kick kicks.Ignored
-    ∷ replies.Delivery deliveries.Ignored ∷ [])
-    ≡ true ∷ false ∷ false ∷ []
-which_starts = refl

@@ -1,6 +1,6 @@
 -- Worked examples: what a call and an acknowledgement from C are answered and leave in a place,
 -- what an opening leaves, and the wrong things that none of them leaves.
-use Rattle.std.proofs.Common.{◌≡◌, ℕ, pos, Bool, true, false, List, [], ◌∷◌, ◌<◌, refl, sym, ap}
+use Rattle.std.proofs.Common.{◌≡◌, ℕ, Bool, true, false, List, [], ◌∷◌, ◌<◌, refl, sym, ap}
 use Rattle.std.proofs.Common.{◌∙◌, subst}
 use Rattle.std.specs.Prelude.{None, Some, Result, Ok, Err, replicate}
 use Rattle.psci_board.specs.Board.{BoardValue, cores}
@@ -19,11 +19,9 @@ use Rattle.psci_messages.specs.Message.{AckValue, MessageValue}
 use Rattle.psci_ffi.specs.Namings.{PlaceValue}
 use Rattle.psci_status.specs.Polled.{PolledView}
 use Rattle.psci_status.proofs.Calls.{Step, asks, board, boots, computing, history, on}
-use Rattle.psci_ffi.specs.declared.answer.Answer.{Answer}
 use Rattle.psci_ffi.specs.Frames.{IsAcknowledged, IsFaulty, IsMisplaced, IsRead, IsTaken, IsTakenBy}
 use Rattle.psci_ffi.specs.Frames.{IsTakenIn}
 use Rattle.psci_ffi.specs.Shown.{IsAfter, IsNewOn, IsNextIn, IsSameIf, IsSameRefused, Opens}
-use Rattle.psci_ffi.specs.Shown.{answered, no_frame, numbers, refused, shown}
 use Rattle.psci_ffi.specs.Slot.{Kept}
 use Rattle.psci_ffi.proofs.Apart.{apart-by, itself}
 
@@ -47,29 +45,10 @@ full (Some p) = 1
 
 -- What a call is answered ---------------------------------------------------------------------
 
-abbrev returned : ℕ → Answer
-returned code =
-    numbers 0 (pos code) 0 0 no_frame
-
 -- what is said of a firmware that has booted
 of : {A : Type 0} (said : BoardValue → Values → A) (f : FirmwareValue) → f.board ≡ board
     → seen f ≡ booted → said f.board (seen f) ≡ said board booted
 of said f is was = ap (λ b. said b (seen f)) is ∙ ap (said board) was
-
--- such a firmware answers a core's call so
-abbrev Answers : ℕ → FwCall → Answer → Type 0
-Answers core call a = (p : PlaceValue) → p.polled.firmware.board ≡ board
-    → seen p.polled.firmware ≡ booted
-    → answered (Some p) core (Some call) ≡ a
-
-answers-by : (core : ℕ) (call : FwCall) → Answers core call (shown (answer board booted core call))
-answers-by core call p = of (λ b v. shown (answer b v core call)) p.polled.firmware
-
--- the caller counts: core 2 is off, and there is no core 4
-answers : Answers 0 version (returned 0x10001) × Answers 2 version (refused 19)
-    × Answers 4 version (refused 17)
-unfolding computing
-answers = (answers-by 0 version, answers-by 2 version, answers-by 4 version)
 
 -- What a call leaves --------------------------------------------------------------------------
 
@@ -85,11 +64,6 @@ leaves-not p = (λ h. apart-by full h refl, λ h. apart-by full h refl, λ h. h)
 
 -- Refusals ------------------------------------------------------------------------------------
 
--- where no call is made, and in an empty place, nothing changes
-refused-and-changed : (p : PlaceValue) → ¬ (IsSameRefused (Some p) 0 None None)
-    × ¬ (IsSameRefused None 0 (Some version) (Some p))
-refused-and-changed p = (λ h. apart-by full h refl, λ h. apart-by full h refl)
-
 -- a call of core 2, which is off, leaves all as it was; a call of core 0 need not
 refused-and-emptied : (p : PlaceValue) → p.polled.firmware.board ≡ board
     → seen p.polled.firmware ≡ booted
@@ -99,13 +73,6 @@ refused-and-emptied p is was h =
     let same : IsSameIf (answer board booted 2 on-3) (Some p) None =
     subst (λ (r : FwReply). IsSameIf r (Some p) None)
     (of (λ b v. answer b v 2 on-3) p.polled.firmware is was) h in apart-by full same refl
-
-accepted-and-changed : (p : PlaceValue) (k : Kept) → p.polled.firmware.board ≡ board
-    → seen p.polled.firmware ≡ booted → IsSameRefused (Some p) 0 (Some on-3) k
-unfolding computing
-accepted-and-changed p k is was =
-    subst (λ (r : FwReply). IsSameIf r (Some p) k)
-    (sym (of (λ b v. answer b v 0 on-3) p.polled.firmware is was)) tt
 
 -- Opening -------------------------------------------------------------------------------------
 

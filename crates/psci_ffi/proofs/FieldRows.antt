@@ -1,11 +1,10 @@
 -- Worked examples: what is written of bytes that are no frame.
-use Rattle.std.proofs.Common.{◌≡◌, ℕ, [], ◌∷◌, refl}
+use Rattle.std.proofs.Common.{ℕ, [], ◌∷◌, refl}
 use Rattle.std.specs.Prelude.{None, Some}
 use Rattle.psci_link.specs.declared.fault.FrameFault.TheVariants.{Magic}
 use Rattle.psci_ffi.specs.declared.fields.Fields.{Fields}
 use Rattle.psci_ffi.specs.declared.fields.PartFields.{PartFields}
 use Rattle.psci_ffi.specs.Fields.{IsDecodedIn, IsUnread}
-use Rattle.psci_ffi.proofs.Apart.{apart-by, itself}
 
 abbrev none : PartFields
 none = record { level = 0; depth = 0; generation = 0 }
@@ -24,15 +23,3 @@ plain kind = record {
 unread : IsUnread (Some Magic) 34 (plain 2) (plain 2)
     × IsDecodedIn None [] 16 (plain 2) (plain 2)
 unread = ((refl, refl), (refl, refl))
-
--- something is, and another number is said
-unread-not : ¬ (IsUnread (Some Magic) 34 (plain 2) (plain 3))
-    × ¬ (IsUnread (Some Magic) 35 (plain 2) (plain 2))
-    × ¬ (IsDecodedIn None [] 0 (plain 2) (plain 2))
-    × ¬ (IsDecodedIn None [] 16 (plain 2) (plain 3))
-unread-not = (
-  λ h. apart-by (λ (f : Fields). f.kind) h.1 refl,
-  λ h. apart-by itself h.0 refl,
-  λ h. apart-by itself h.0 refl,
-  λ h. apart-by (λ (f : Fields). f.kind) h.1 refl,
-)

@@ -1,22 +1,17 @@
 -- Worked examples: what a turn of a guest leaves in a place, and what is told of none.
-use Rattle.std.proofs.Common.{◌∙◌, ◌≡◌, ◌∷◌, [], ap, arith, false, List, None, Option, refl, Some}
-use Rattle.std.proofs.Common.{ℕ}
-use Rattle.std.specs.Prelude.{nat_lt, Err, Ok}
+use Rattle.std.proofs.Common.{◌∙◌, ◌≡◌, ◌∷◌, [], ap, arith, false, List, None, refl, Some, ℕ}
+use Rattle.std.specs.Prelude.{Err, Ok}
 use Rattle.psci_abi.specs.declared.registers.Regs.{Regs}
 use Rattle.psci_fw.specs.Seen.{seen}
-use Rattle.psci_guest.specs.psci_world_spec.declared.place.Place.TheVariants.{Running}
-use Rattle.psci_guest.specs.psci_world_spec.Places.{place}
 use Rattle.psci_guest.specs.Arrivals.{RunsIn}
 use Rattle.psci_guest.specs.Guest.{IsAfter}
-use Rattle.psci_guest.specs.Turns.{Resets, Turn, turns}
-use Rattle.psci_board.specs.Board.{BoardValue, cores}
+use Rattle.psci_guest.specs.Turns.{Turn, turns}
+use Rattle.psci_board.specs.Board.{BoardValue}
 use Rattle.psci_board.specs.declared.fault.BoardFault.TheVariants.{Memory, TooWide}
-use Rattle.psci_guest.specs.declared.arrival.Arrival.{Arrival}
 use Rattle.psci_guest.specs.declared.turned.Turned.{Turned}
-use Rattle.psci_guest.specs.Pair.{board_of}
 use Rattle.psci_ffi.specs.declared.guest_turn.GuestTurn.{GuestTurn}
-use Rattle.psci_ffi.specs.GuestCalls.{called_shown, IsCalled, IsCallTold, IsMade, IsNewTold}
-use Rattle.psci_ffi.specs.GuestCalls.{IsOpened, IsReset, IsResetTold, IsWakeTold, IsWoken, Opens}
+use Rattle.psci_ffi.specs.GuestCalls.{called_shown, IsCalled, IsCallTold, IsMade}
+use Rattle.psci_ffi.specs.GuestCalls.{IsOpened, IsResetTold, IsWakeTold, Opens}
 use Rattle.psci_ffi.specs.Namings.{asked_in}
 use Rattle.psci_ffi.specs.GuestNamings.{GuestValue}
 use Rattle.psci_ffi.specs.Shown.{asked_shown, no_frame, plain}
@@ -38,11 +33,6 @@ only what life = record {
 empty : (made : GuestValue → GuestValue → Type 0) → IsMade None 3 made (only 16 0) None
 empty made = (refl, refl)
 
--- so does one that has not the core
-no_core : (g : GuestValue) (c : ℕ) (made : GuestValue → GuestValue → Type 0)
-    → nat_lt c (cores (board_of g.power)) ≡ false → IsMade (Some g) c made (only 17 0) (Some g)
-no_core g c made e = rw e (refl, refl)
-
 -- a fault of the text, want of memory, and a text with a fault for which a guest was opened
 opens : (b : BoardValue) (before : GuestTurn)
     → Opens (Err TooWide) (Err TooWide) None None before before
@@ -58,15 +48,6 @@ behind : (g g' : GuestValue) (c life : ℕ) (regs : Regs) (t : Turned) (b : Boar
     → IsCalled g c life regs (Some t) g' → ⊥
 behind g g' c life regs t b ts after stands is =
     let none = (is.behind b ts after stands).0 in absurd (cc)
-
-awake : (g g' : GuestValue) (c : ℕ) (a : Arrival) (b : BoardValue) (ts : List Turn)
-    → IsAfter b ts g.power → place b (turns b ts) c ≡ Running → IsWoken g c (Some a) g' → ⊥
-awake g g' c a b ts after at is = let none = (is.running b ts after at).0 in absurd (cc)
-
--- a reset is a turn wherever the core is
-was_reset : (g g' : GuestValue) (c : ℕ) (r : Option Arrival) (b : BoardValue) (ts : List Turn)
-    → IsAfter b ts g.power → IsReset g c r g' → IsAfter b (Resets c ∷ ts) g'.power
-was_reset g g' c r b ts after is = (is.kicked b ts after).after
 
 -- a call that is refused came to nothing, and no wake-up, reset or opening is refused
 refused_call : (g g' : GuestValue) (c life : ℕ) (regs : Regs) (t : Turned)
@@ -84,7 +65,3 @@ no_refusal g g' c = (
   λ is. let no : 19 ≡ 0 = ap (λ (x : GuestTurn). x.what) is.shows in absurd (omega (arith, no)),
   λ is. let no : 19 ≡ 0 = ap (λ (x : GuestTurn). x.what) is.shows in absurd (omega (arith, no)),
 )
-
-no_refused_opening : (b : BoardValue) (g : GuestValue) → IsNewTold b None (only 19 0) g → ⊥
-no_refused_opening b g is =
-    let no : 19 ≡ 0 = ap (λ (x : GuestTurn). x.what) is.shows in absurd (omega (arith, no))

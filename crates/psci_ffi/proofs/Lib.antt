@@ -3,7 +3,6 @@ mod CallRows
 pub mod ControlDone
 pub mod ControlForm
 mod ControllerPlaceRows
-mod ControllerSavedRows
 pub mod Crossing
 pub mod FieldParts
 mod FieldRows
@@ -13,7 +12,6 @@ pub mod MachineMaking
 mod GuestRows
 mod GuestSavedRows
 mod NamingRows
-mod NewRows
 mod PollerRows
 mod PortAgainRows
 pub mod PortKept

@@ -1,7 +1,7 @@
 -- Worked examples: a machine of two clusters whose MPIDRs are no places, and what an opening leaves
 -- in its place.
-use Rattle.std.proofs.Common.{◌≡◌, ◌∙◌, ℕ, Bool, List, [], ◌∷◌, ◌++◌, true, false, refl, ap}
-use Rattle.std.proofs.Common.{arith, replicate, sym}
+use Rattle.std.proofs.Common.{◌≡◌, ℕ, Bool, List, [], ◌∷◌, ◌++◌, true, false, refl, ap}
+use Rattle.std.proofs.Common.{arith, replicate}
 use Rattle.std.specs.Prelude.{Option, Ok, Err, None, Some}
 use Rattle.psci_abi.specs.declared.format.Format.TheVariants.{Original}
 use Rattle.psci_board.specs.Board.{BoardValue}
@@ -19,9 +19,9 @@ use Rattle.psci_ffi.specs.declared.machine_given.GivenRow.{GivenRow}
 use Rattle.psci_ffi.specs.declared.guest_turn.GuestTurn.{GuestTurn}
 use Rattle.psci_ffi.specs.GuestNamings.{GuestValue}
 use Rattle.psci_ffi.specs.GuestSlot.{KeptGuest}
-use Rattle.psci_ffi.specs.MachineOpening.{IsMade, IsNewWith, OpensGuest, OpensMachine}
+use Rattle.psci_ffi.specs.MachineOpening.{IsMade, OpensGuest, OpensMachine}
 use Rattle.psci_ffi.specs.Slot.{IsFull, Kept}
-use Rattle.psci_ffi.proofs.Apart.{apart-by, itself}
+use Rattle.psci_ffi.proofs.Apart.{apart-by}
 
 -- A machine -------------------------------------------------------------------------------------
 
@@ -117,16 +117,6 @@ opens_not p = (
   λ h. let e : false ≡ true = h.machine.ready in absurd cc,
   λ h. h,
   λ h. h,
-)
-
--- the firmware is that of the machine's board, and the place has the machine
-new_not : (p : PolledView) → (p.firmware.board.starts ≡ 9
-    → ¬ (IsNewWith (record last { board = record paired_board { starts = 8 } })
-    (record { polled = p; machine = kept })))
-    × ¬ (IsNewWith last (record { polled = p; machine = None }))
-new_not p = (
-  λ nine h. apart-by itself (sym nine ∙ ap (λ (b : BoardValue). b.starts) h.fresh.board) refl,
-  λ h. h.machine,
 )
 
 -- a place for the power of a guest

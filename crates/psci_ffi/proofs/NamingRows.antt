@@ -1,5 +1,5 @@
 -- Worked examples: the words that a place is opened with, and that are left in it.
-use Rattle.std.proofs.Common.{ℕ, [], None, Some, refl}
+use Rattle.std.proofs.Common.{ℕ, None, Some, refl}
 use Rattle.std.specs.Global.{Global}
 use Rattle.std_alloc.specs.declared.boxed.Box.{Box}
 use Rattle.std.specs.Prelude.{Option}
@@ -8,7 +8,6 @@ use Rattle.psci_fw_spec.specs.declared.call.FwCall.{FwCall}
 use Rattle.psci_platform.specs.Platforms.{PlatformValue}
 use Rattle.psci_status.specs.Polled.{IsNext, PolledView}
 use Rattle.psci_ffi.specs.declared.naming.Naming.TheVariants.{Board, Machine}
-use Rattle.psci_ffi.specs.Frames.{IsTakenBy}
 use Rattle.psci_ffi.specs.Namings.{PlaceValue}
 use Rattle.psci_ffi.specs.Shown.{IsNew, IsNewIn, IsNewOn, IsNextIn}
 use Rattle.psci_ffi.proofs.Apart.{apart-by}
@@ -57,12 +56,3 @@ left : (m : PlatformValue) (p q : PolledView) (core : ℕ) (call : FwCall)
     × (IsNextIn (with_machine (Some m) p) core call (with_machine (Some m) q)
     → IsNext p core call q)
 left m p q core call = (λ h. record { next = h; machine = refl }, λ h. h.next)
-
-left_not : (m : PlatformValue) (p q : PolledView) (core : ℕ) (call : FwCall)
-    → ¬ (IsNextIn (with_machine (Some m) p) core call (with_machine None q))
-left_not m p q core call = λ h. apart-by many h.machine refl
-
--- so does an acknowledgement
-taken_not : (m : PlatformValue) (p q : PolledView) (code : ℕ)
-    → ¬ (IsTakenBy (with_machine (Some m) p) [] code (with_machine None q))
-taken_not m p q code = λ h. apart-by many h.machine refl

@@ -1,5 +1,5 @@
 -- Worked examples: one who polls a firmware, and what C gets of it.
-use Rattle.std.proofs.Common.{◌≡◌, inl, inr, ℕ, ℤ, pos, negsuc, List, [], ◌∷◌, refl, sym, ap, ◌∙◌}
+use Rattle.std.proofs.Common.{◌≡◌, inl, inr, ℕ, ℤ, pos, negsuc, List, [], ◌∷◌, refl, sym, ◌∙◌}
 use Rattle.std.proofs.Common.{arith, None, Option, Some}
 use Rattle.atomic_table.specs.Seated.{TableId}
 use Rattle.psci_abi.specs.declared.code.Code.{Code}
@@ -7,7 +7,6 @@ use Rattle.psci_board.specs.Board.{BoardValue}
 use Rattle.psci_fw.specs.Seen.{FirmwareValue}
 use Rattle.psci_fw_spec.specs.declared.status.Status.{Status}
 use Rattle.psci_fw_spec.specs.declared.status.Status.TheVariants.{Off, On, Pending}
-use Rattle.psci_fw_spec.specs.AffinityInfo.{status_code}
 use Rattle.psci_status.specs.Lists.{Item, row}
 use Rattle.psci_status.specs.Polled.{PolledView}
 use Rattle.psci_status.proofs.Calls.{board, computing}
@@ -17,7 +16,6 @@ use Rattle.psci_ffi.specs.Pollers.{HasPolledIn, IsFilled, IsOpenedFor, OpensPoll
 use Rattle.psci_ffi.specs.Watching.{HasPolled, IsWatchOf, WatchView}
 use Rattle.psci_ffi.proofs.Apart.{apart-by, itself, neither}
 use Rattle.psci_ffi.proofs.MachineAxisRows.{last as last-boots}
-use Rattle.psci_platform.proofs.Machines.{calling}
 use Rattle.psci_platform.specs.Platforms.{PlatformValue}
 
 -- Firmware, and who polls it ------------------------------------------------------------------
@@ -108,37 +106,9 @@ core-3-is-on = record {
   answer = (On, (2, refl, ((1, Pending) ∷ [], refl), (omega arith, (tt, tt))), refl);
 }
 
-core-1-is-still-off : HasPolled old 1 (code (pos 1)) old
-unfolding computing
-core-1-is-still-off = record {
-  board = refl;
-  machine = refl;
-  table = refl;
-  answer = (Off, (0, refl, ([], refl), (tt, tt)), refl);
-}
-
-no-such-core : HasPolled old 2 (code (negsuc 1)) old
-unfolding computing
-no-such-core = record { board = refl; machine = refl; table = refl; answer = (refl, refl) }
-
--- a machine calls core 3 by another MPIDR
-named-core-3-is-on : HasPolled (record old { machine = Some last-boots }) 0x100 (code (pos 0))
-    (record new { machine = Some last-boots })
-unfolding computing calling
-named-core-3-is-on = record {
-  board = refl;
-  machine = refl;
-  table = refl;
-  answer = (On, (2, refl, ((1, Pending) ∷ [], refl), (omega arith, (tt, tt))), refl);
-}
-
 -- the number of a status, or 9
 abbrev number-in : Code → ℕ
 number-in c = elim c.0 [ pos n ↦ n | negsuc n ↦ 9 ]
-
-abbrev last-code : List Item → ℕ
-last-code [] = 9
-last-code (i ∷ is) = status_code i.1
 
 -- a poll changes neither the board nor its words nor whose words they are; no core is not off
 polled-not : ¬ (HasPolled old 2 (code (negsuc 1)) (record old { machine = Some last-boots }))
@@ -153,13 +123,6 @@ polled-not = (
   λ p. apart-by (λ (t : TableId). t.atom) p.table refl,
   λ p. apart-by number-in p.answer.0 refl,
 )
-
--- the status of core 0 is answered for core 3
-core-0-is-answered : HasPolled old 0x101 (code (pos 0)) old → ⊥
-unfolding computing
-core-0-is-answered p =
-    let e : 2 ≡ status_code p.answer.0 = ap last-code p.answer.1.2.1 in
-    let f : 0 ≡ status_code p.answer.0 = ap number-in p.answer.2 in omega arith
 
 -- What C gets ---------------------------------------------------------------------------------
 
@@ -208,11 +171,6 @@ opens-not f is = (
   λ h. apart-by itself h.0 refl,
   λ h. apart-by is-full h.1 refl,
 )
-
--- a poll: of core 3, of no core, and by an empty poller
-polls : HasPolledIn (Some old) 0x101 (pos 0) (Some new)
-    × HasPolledIn (Some old) 2 (negsuc 1) (Some old) × HasPolledIn None 0x101 (pos 16) None
-polls = (core-3-is-on, no-such-core, (refl, refl))
 
 abbrev absolute : ℤ → ℕ
 absolute z = elim z [ pos n ↦ n | negsuc n ↦ 100 ]

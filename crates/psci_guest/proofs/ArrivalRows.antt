@@ -1,9 +1,7 @@
 -- Worked examples: which core runs, which one was started and enters, and what is not settled.
-use Rattle.std.proofs.Common.{◌<◌, ◌∷◌, ◌≡◌, [], ap, arith, List, None, Option, refl, Some, sym}
-use Rattle.std.proofs.Common.{true, ℕ}
+use Rattle.std.proofs.Common.{◌<◌, ◌∷◌, ◌≡◌, [], arith, List, None, refl, Some, sym, true, ℕ}
 use Rattle.std.proofs.lemmas.Option.{none-some}
 use Rattle.psci_messages.specs.declared.start.Cause.TheVariants as causes
-use Rattle.psci_messages.specs.declared.start.Start.{Start}
 use Rattle.psci_messages.specs.declared.kind.Kind.TheVariants.{Down}
 use Rattle.psci_messages.specs.Message.{MessageValue}
 use Rattle.psci_fw_spec.specs.declared.hw.Hw.TheVariants as hws
@@ -15,7 +13,7 @@ use Rattle.psci_world_spec.specs.declared.event.Event.TheVariants.{Deliver, Ente
 use Rattle.psci_world_spec.specs.declared.place.Place.TheVariants.{Started}
 use Rattle.psci_world_spec.specs.declared.said.Record.{Record}
 use Rattle.psci_world_spec.specs.declared.said.Said.{Said}
-use Rattle.psci_world_spec.specs.declared.said.Said.TheVariants.{Absent, Fw, Ignored}
+use Rattle.psci_world_spec.specs.declared.said.Said.TheVariants.{Absent, Fw}
 use Rattle.psci_world_spec.specs.Legal.{run_from}
 use Rattle.psci_world_spec.specs.Places.{place}
 use Rattle.psci_world_spec.proofs.Scripts as scripts
@@ -53,28 +51,14 @@ says : Says (Fw acts.Resume None) (quiet acts.Resume)
     × Says sent_so (record { act = acts.Stop; message = Some message })
 says = ((refl, refl), (refl, refl))
 
-says_other : Says (Fw acts.Stop None) (quiet acts.Resume) → ⊥
-says_other is = let e = is.0 in absurd (cc)
-
 says_less : Says sent_so (quiet acts.Stop) → ⊥
 says_less is = let e = is.1 in absurd (cc)
-
-says_nothing : (Says Ignored (quiet acts.Stop) → ⊥) × (Says Absent (quiet acts.Stop) → ⊥)
-says_nothing = (λ e. e, λ e. e)
 
 -- Running cores -----------------------------------------------------------------------------------
 
 boot_runs : RunsIn board (after (Enter 0 ∷ [])) 1 0
 unfolding scripts.computing
 boot_runs = record { present = refl; place = refl }
-
-other_life : RunsIn board (after (Enter 0 ∷ [])) 2 0 → ⊥
-unfolding scripts.computing
-other_life is = let life = is.present in absurd (cc)
-
-other_stands : RunsIn board (after (Enter 0 ∷ [])) 1 3 → ⊥
-unfolding scripts.computing
-other_stands is = let place = is.place in absurd (cc)
 
 -- Arrivals ----------------------------------------------------------------------------------------
 
@@ -89,10 +73,6 @@ boot = record {
 pub by_core : (P : ℕ → Type 0) → P 0 → P 1 → P 2 → P 3 → (c : ℕ) → c < 4 → P c
 by_core P p q r s c on = grind (arith, nat_tests)
 
-abbrev number_in : Option Start → ℕ
-number_in None = 0
-number_in (Some s) = s.number
-
 boot_enters : IsArrival board [] boot
 unfolding scripts.computing
 boot_enters = record {
@@ -104,19 +84,6 @@ boot_enters = record {
       by_core (λ x. place board [] x ≡ Started → x ≡ 0) (λ e. refl) (λ e. absurd (cc))
       (λ e. absurd (cc)) (λ e. absurd (cc)) c on;
 }
-
-has_entered : IsArrival board (after (Enter 0 ∷ [])) boot → ⊥
-unfolding scripts.computing
-has_entered is = let place = is.started in absurd (cc)
-
-other_start : IsArrival board []
-    (record boot { start = record { life = 1; number = 2; cause = causes.Boot } }) → ⊥
-unfolding scripts.computing
-other_start is = let n : 1 ≡ 2 = ap number_in is.start in absurd (omega (arith, n))
-
-other_act : IsArrival board [] (record boot { outcome = quiet acts.Resume }) → ⊥
-unfolding scripts.computing
-other_act is = let act = is.says.0 in absurd (cc)
 
 -- the boot core waits too, which was reset
 abbrev third : Arrival
@@ -140,11 +107,6 @@ boot_waits none = none 0 (omega arith) refl
 start_waits : IsSettled board (after (Enter 0 ∷ on_3 ∷ [])) → ⊥
 unfolding scripts.computing
 start_waits is = none-some _ (sym ((is.rest 1 refl).own 3 (omega arith)))
-
--- a core is at its start
-core_waits : IsSettled board (after (Enter 0 ∷ on_3 ∷ Deliver 0 ∷ [])) → ⊥
-unfolding scripts.computing
-core_waits is = (is.rest 1 refl).entered 3 (omega arith) refl
 
 -- a record says that nothing came of a call that was answered
 no_answer : IsSettled board (record { event = version 0; said = Absent } ∷ after (Enter 0 ∷ [])) → ⊥

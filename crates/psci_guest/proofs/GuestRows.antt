@@ -17,7 +17,6 @@ use Rattle.psci_world_spec.proofs.Scripts as scripts
 use Rattle.psci_world_spec.proofs.Scripts.{board, tall}
 use Rattle.psci_guest.specs.declared.arrival.Arrival.{Arrival}
 use Rattle.psci_guest.specs.declared.turned.Turned.{Turned}
-use Rattle.psci_guest.specs.Arrivals.{AreArrivals}
 use Rattle.psci_guest.specs.Guest.{IsAfter, IsKicked, IsTold, IsTurned}
 use Rattle.psci_guest.specs.Pair.{Kept, PairValue}
 use Rattle.psci_guest.specs.Turns.{arrived, Calls, event_of, exchange, Turn, turns, Wakes}
@@ -34,12 +33,6 @@ call c x0 x1 x2 x3 = Calls c (record { x0 = x0; x1 = x1; x2 = x2; x3 = x3 })
 -- CPU_ON of core 3 by the boot core, and what else is called
 abbrev on_3 : Turn
 on_3 = call 0 0xc4000003 0x101 0x40001000 7
-
-abbrev system_off : ℕ → Turn
-system_off c = call c 0x84000008 0 0 0
-
-abbrev system_reset : ℕ → Turn
-system_reset c = call c 0x84000009 0 0 0
 
 -- the boot core has entered
 abbrev began : List Record
@@ -108,70 +101,6 @@ no_life : IsTold board began on_3
     (record { outcome = success; arrival = Some third; life = None }) → ⊥
 unfolding computing
 no_life is = let life = is.life in absurd (cc)
-
--- core 3 has entered
-abbrev third_on : List Record
-third_on = turns board (on_3 ∷ [])
-
--- core 3 resets the system: the boot core enters in the next life
-next_life : IsTold board third_on (system_reset 3) (record {
-  outcome = sends acts.Stop kinds.Reset 3 1;
-  arrival = Some (enters 0 2 causes.Boot (quiet (acts.Enter 0x40000000 0)));
-  life = Some 2;
-})
-unfolding computing
-next_life = record {
-  says = (refl, refl);
-  arrival = record {
-    core = omega arith;
-    started = refl;
-    start = refl;
-    says = (refl, refl);
-    alone = λ c on.
-        by_core (λ x. place board (exchange board third_on (event_of (system_reset 3))) x ≡ Started
-        → x ≡ 0) (λ e. refl) (λ e. absurd (cc)) (λ e. absurd (cc)) (λ e. absurd (cc)) c on;
-  };
-  life = refl;
-}
-
--- the boot core turns it off: nobody enters
-is_off : IsTold board began (system_off 0)
-    (record { outcome = sends acts.Stop kinds.Off 0 1; arrival = None; life = None })
-unfolding computing
-is_off = record {
-  says = (refl, refl);
-  arrival = λ c on.
-      by_core (λ x. place board (exchange board began (event_of (system_off 0))) x ≡ Started → ⊥)
-      (λ e. absurd (cc)) (λ e. absurd (cc)) (λ e. absurd (cc)) (λ e. absurd (cc)) c on;
-  life = refl;
-}
-
--- core 3 is woken, which nobody asked for: it stands, and all of it goes down
-abbrev parked : Outcome
-parked = record {
-  act = acts.Stop;
-  message = Some (record {
-    kind = kinds.Down;
-    core = record { number = 3 };
-    life = 1;
-    number = 1;
-    parts = record { level = 0; depth = 3; generation = 1 }
-        ∷ record { level = 1; depth = 3; generation = 1 } ∷ [];
-  });
-}
-
-parks : AreArrivals board (exchange board began (event_of (Wakes 3)))
-    (Some (enters 3 1 causes.Wake parked))
-unfolding computing
-parks = record {
-  core = omega arith;
-  started = refl;
-  start = refl;
-  says = (refl, refl);
-  alone = λ c on.
-      by_core (λ x. place board (exchange board began (event_of (Wakes 3))) x ≡ Started → x ≡ 3)
-      (λ e. absurd (cc)) (λ e. absurd (cc)) (λ e. absurd (cc)) (λ e. refl) c on;
-}
 
 -- What a turn leaves -----------------------------------------------------------------------------
 

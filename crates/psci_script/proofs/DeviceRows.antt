@@ -4,7 +4,7 @@ use Rattle.std.proofs.Common.{◌≡◌, true, false, inl, inr, refl, ap, arith,
 use Rattle.std.specs.declared.io.ErrorKind.TheVariants.{NotFound, Interrupted}
 use Rattle.psci_script.specs.declared.device.Io.TheVariants as ios
 use Rattle.psci_script.specs.Device.{FailsRead, FailsWrite, GaveUp, Gives, Interrupts, Stops, Takes}
-use Rattle.psci_script.specs.declared.fault.ReplayFault.TheVariants.{Read, Write}
+use Rattle.psci_script.specs.declared.fault.ReplayFault.TheVariants.{Read}
 use Rattle.psci_script.specs.Progress.{OnlyGivenUp}
 use Rattle.std.proofs.lemmas.Bool.{eqb-false, true≢false, false≢true}
 
@@ -14,11 +14,6 @@ use Rattle.std.proofs.lemmas.Bool.{eqb-false, true≢false, false≢true}
 gave_up : GaveUp true 0 × GaveUp false 1000
 gave_up = (inl refl, inr refl)
 
--- a sound one did not, and neither did one with an interruption less
-sound : GaveUp false 0 → ⊥
-sound (inl fails) = cc
-sound (inr many) = absurd (omega (arith, many))
-
 nearly_interrupted : GaveUp false 999 → ⊥
 nearly_interrupted (inl fails) = cc
 nearly_interrupted (inr many) = absurd (omega (arith, many))
@@ -26,14 +21,6 @@ nearly_interrupted (inr many) = absurd (omega (arith, many))
 -- a read fault where the source failed and the sink did not; and not the other way round
 source_gave_up : OnlyGivenUp (λ s. s) (λ s. 0) (λ k. k) (λ k. 0) true false Read
 source_gave_up = (λ fault. inl refl, λ fault. absurd (cc))
-
-gave_up_not :
-    ¬ (OnlyGivenUp (λ s. s) (λ s. 0) (λ k. k) (λ k. 0) false true Read)
-    × ¬ (OnlyGivenUp (λ s. s) (λ s. 0) (λ k. k) (λ k. 0) true false Write)
-gave_up_not = (
-  λ given. sound (given.0 refl),
-  λ given. sound (given.1 refl),
-)
 
 -- Failed ----------------------------------------------------------------------------------------
 
@@ -98,6 +85,3 @@ gives_not = (
 
 one_taken : Takes (ios.Bytes 1) (7 ∷ 8 ∷ []) (Some (6 ∷ [])) (Some (6 ∷ 7 ∷ []))
 one_taken = (omega arith, refl)
-
-taken_twice : Takes (ios.Bytes 1) (7 ∷ []) (Some []) (Some (7 ∷ 7 ∷ [])) → ⊥
-taken_twice h = let no : 7 ∷ 7 ∷ [] ≡ 7 ∷ [] = h.1 in absurd (cc)

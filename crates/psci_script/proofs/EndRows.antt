@@ -1,7 +1,6 @@
 -- Worked examples: when a run goes on from another one; and for each clause something that breaks
 -- it.
-use Rattle.std.proofs.Common.{◌≡◌, ℕ, List, [], ◌∷◌, ◌++◌, length, ap, arith}
-use Rattle.std.proofs.Common.{Option, None, Some, refl}
+use Rattle.std.proofs.Common.{◌≡◌, ℕ, List, [], ◌∷◌, ◌++◌, length, ap, arith, None, Some, refl}
 use Rattle.psci_world_spec.specs.psci_board.Board.{BoardValue}
 use Rattle.psci_world_spec.specs.psci_fw_spec.declared.outcome.Act.TheVariants as acts
 use Rattle.psci_world_spec.specs.declared.event.Event.TheVariants.{Enter}
@@ -15,9 +14,6 @@ entered c address = record { event = Enter c; said = Fw (acts.Enter address 0) N
 
 abbrev run : BoardValue → List Record → ScriptRun
 run b past = record { board = b; past = past }
-
-from_nothing : (later : Option ScriptRun) → GoesOn None later
-from_nothing later = tt
 
 by_two : (b : BoardValue) (r s t : Record)
     → GoesOn (Some (run b (r ∷ []))) (Some (run b (t ∷ s ∷ r ∷ [])))

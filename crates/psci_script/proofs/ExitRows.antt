@@ -45,6 +45,3 @@ replay_ends = (tt, tt, tt, tt, tt)
 
 replay_by_command_line : IsOfReplay CommandLine → ⊥
 replay_by_command_line h = h
-
-replay_by_given_board : IsOfReplay (GivenBoard boards.Grammar) → ⊥
-replay_by_given_board h = h

@@ -4,7 +4,7 @@ use Rattle.std.specs.Prelude.{codes}
 use Rattle.std.specs.Fmt.{digits}
 use Rattle.psci_script.specs.Line.{line_of}
 use Rattle.psci_script.specs.declared.grammar.Line.TheVariants.{Event as Says}
-use Rattle.psci_world_spec.specs.declared.event.Event.TheVariants.{Call, Take, Wake}
+use Rattle.psci_world_spec.specs.declared.event.Event.TheVariants.{Call}
 use Rattle.psci_script.specs.Kept.{ReadsAsKept}
 
 -- a call by core 2, and events of the largest numbers, by the lines that they are kept in
@@ -14,12 +14,3 @@ unfolding digits
 call_is_read reads = reads
     (Call 2 (record { x0 = 0xc4000003; x1 = 0x101; x2 = 0x40001000; x3 = 7 }))
     (omega arith, omega arith, omega arith, omega arith, omega arith)
-
-wake_up_is_read : ReadsAsKept → line_of (codes "wake 12") ≡ Some (Says (Wake 12))
-unfolding digits
-wake_up_is_read reads = reads (Wake 12) (omega arith)
-
-largest_taking_is_read : ReadsAsKept
-    → line_of (codes "take 18446744073709551615") ≡ Some (Says (Take 18446744073709551615))
-unfolding digits
-largest_taking_is_read reads = reads (Take 18446744073709551615) (omega arith)

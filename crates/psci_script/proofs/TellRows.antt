@@ -1,15 +1,13 @@
 -- Worked examples: what is told of a run, line by line and in all; and for each clause something
 -- that breaks it.
-use Rattle.std.proofs.Common.{◌≡◌, ℕ, ◌<◌, ◌≤◌, List, [], ◌∷◌, ◌++◌, length}
+use Rattle.std.proofs.Common.{◌≡◌, ℕ, ◌<◌, List, [], ◌∷◌, ◌++◌, length}
 use Rattle.std.proofs.Common.{ap, arith, Option, None, Some, Ok, Err, Result, refl}
 use Rattle.std.specs.Prelude.{codes}
-use Rattle.std.specs.Io.KnownBytes.{Appends}
 use Rattle.psci_world_spec.specs.psci_board.Board.{BoardValue}
 use Rattle.psci_world_spec.specs.declared.event.Event.TheVariants.{Deliver}
-use Rattle.psci_world_spec.specs.declared.said.Record.{Record}
 use Rattle.psci_script.specs.declared.fault.Replayed.{Replayed}
 use Rattle.psci_script.specs.declared.fault.ReplayFault.{ReplayFault}
-use Rattle.psci_script.specs.declared.fault.ReplayFault.TheVariants.{Script, Read, Write, Memory}
+use Rattle.psci_script.specs.declared.fault.ReplayFault.TheVariants.{Script, Write}
 use Rattle.psci_script.specs.declared.fault.ScriptFault.TheVariants as faults
 use Rattle.psci_script.specs.declared.grammar.Line.TheVariants.{Blank, Event as Says}
 use Rattle.psci_script.specs.Lines.{lines}
@@ -17,21 +15,13 @@ use Rattle.psci_script.specs.Answered.{Answered}
 use Rattle.psci_script.specs.Progress.{Progress}
 use Rattle.psci_script.specs.Run.{Follows}
 use Rattle.psci_script.specs.ScriptRun.{GoesOn, ScriptRun, events_of, run_of, with_record}
-use Rattle.psci_script.specs.Told.{EventTold, Goes, IsUnderWay, LineTold, Tells}
-use Rattle.psci_script.specs.Told.{account, events_in, remaining}
+use Rattle.psci_script.specs.Told.{EventTold, IsUnderWay, LineTold, Tells, account, remaining}
 use Rattle.psci_script.proofs.Scripts.{answering, board, text}
 
 -- a byte is told for each event, and nothing before there is a board
 abbrev tally : Option ScriptRun → List ℕ → Type 0
 tally None told = told ≡ []
 tally (Some run) told = length told ≡ length run.past
-
-no_events : events_in None ≡ 0
-no_events = refl
-
-two_events : (b : BoardValue) (r s : Record)
-    → events_in (Some (record { board = b; past = s ∷ r ∷ [] })) ≡ 2
-two_events b r s = refl
 
 -- A line ------------------------------------------------------------------------------------------
 
@@ -48,10 +38,6 @@ no_line is_at run old new h = h
 blank_line : (is_at : ScriptRun → Type 0) (run : ScriptRun) (old : Answered) → is_at run
     → LineTold is_at tally (Some Blank) run old old
 blank_line is_at run old is = (is, refl)
-
-blank_at_another_run : (is_at : ScriptRun → Type 0) (run : ScriptRun) (old : Answered)
-    → ¬ (is_at run) → LineTold is_at tally (Some Blank) run old old → ⊥
-blank_at_another_run is_at run old differs h = differs h.0
 
 blank_is_told : (is_at : ScriptRun → Type 0) (run : ScriptRun)
     → LineTold is_at tally (Some Blank) run (waits [] 3) (waits (55 ∷ []) 3) → ⊥
@@ -100,28 +86,11 @@ lines_after : (is_at : ScriptRun → Type 0) (first before : Option (List ℕ)) 
     → account (k.goes.whole ++ rest) ≡ remaining (Some k.run) 7 (lines rest)
 lines_after is_at first before s k rest f = k.goes.comes rest f
 
-not_counted : (run : Option ScriptRun) (count : ℕ) (first before : Option (List ℕ))
-    (s : Progress) (k : Goes tally run count first before s)
-    → ¬ (s.answered.events ≡ events_in run) → ⊥
-not_counted run count first before s k differs = differs k.events
-
-not_told : (run : ScriptRun) (count : ℕ) (first before : Option (List ℕ)) (s : Progress)
-    (k : Goes tally (Some run) count first before s)
-    → ¬ (length (k.written ++ s.answered.waiting) ≡ length run.past) → ⊥
-not_told run count first before s k differs = differs k.is_told
-
-to_the_sink : (run : Option ScriptRun) (count : ℕ) (first before : Option (List ℕ)) (s : Progress)
-    (k : Goes tally run count first before s) → Appends before s.taken k.written
-to_the_sink run count first before s k = k.to
-
 -- What is told in all --------------------------------------------------------------------------
 
 -- a script of two events, and the same without its last line
 abbrev script : List ℕ
 script = text (board ∷ codes "enter 9" ∷ codes "deliver 1" ∷ [])
-
-abbrev shorter : List ℕ
-shorter = text (board ∷ codes "enter 9" ∷ [])
 
 abbrev whole : Result Replayed ReplayFault
 whole = Ok (record { lines = 3; events = 2 })
@@ -154,10 +123,6 @@ told_to_a_fault : Tells tally (Err (Script 2 faults.Line)) (Some (text (board �
 unfolding events_of answering
 told_to_a_fault = (refl, [], refl, refl)
 
--- a source whose bytes are not known
-told_of_unknown : (left before after : Option (List ℕ)) → Tells tally whole None left before after
-told_of_unknown left before after = tt
-
 -- at a write fault a front part of what is told of a run from which the script's goes on
 front_part : Tells tally (Err Write) (Some script) (Some []) (Some seven) (Some (55 ∷ 1 ∷ []))
 unfolding events_of answering
@@ -167,16 +132,3 @@ part_of_another_run : (before after : Option (List ℕ))
     → ((run : Option ScriptRun) → GoesOn run (run_of script) → ⊥)
     → Tells tally (Err Write) (Some script) (Some []) before after → ⊥
 part_of_another_run before after none h = none h.0 h.1
-
--- at a read or memory fault all of some whole lines
-all_of_the_lines : (first left before after : Option (List ℕ))
-    (k : Tells tally (Err Read) first left before after) → tally (run_of k.whole) k.text
-all_of_the_lines first left before after k = k.is_told
-
-written_of_the_lines : (first left before after : Option (List ℕ))
-    (k : Tells tally (Err Memory) first left before after) → Appends before after k.text
-written_of_the_lines first left before after k = k.to
-
-read_behind_the_lines : (first left before after : Option (List ℕ))
-    (k : Tells tally (Err Memory) first left before after) → length k.part ≤ 65536
-read_behind_the_lines first left before after k = k.fits

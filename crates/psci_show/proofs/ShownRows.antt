@@ -1,15 +1,12 @@
 -- Worked examples: how a row begins, and what a run is shown as; and for each clause something that
 -- breaks it.
-use Rattle.std.proofs.Common.{◌≡◌, ◌∙◌, ℕ, true, false, List, [], ◌∷◌, ◌++◌, length, ap, refl}
-use Rattle.std.proofs.Common.{None, Some}
+use Rattle.std.proofs.Common.{◌≡◌, ◌∙◌, ℕ, false, List, [], ◌∷◌, ◌++◌, length, ap, refl, None, Some}
 use Rattle.std.specs.Prelude.{codes, slice_index_or}
 use Rattle.std.specs.Fmt.{decimal, digits}
 use Rattle.psci_script.specs.psci_board.Board.{BoardValue}
 use Rattle.psci_world.specs.psci_world_spec.declared.event.Event.TheVariants.{Take, Wake}
 use Rattle.psci_world.specs.psci_world_spec.declared.said.Record.{Record}
 use Rattle.psci_world.specs.psci_world_spec.declared.said.Said.TheVariants.{Absent, Ignored}
-use Rattle.psci_world.specs.psci_world_spec.declared.said.Said.TheVariants.{Kick}
-use Rattle.psci_world_spec.specs.psci_messages.declared.start.Cause.TheVariants.{Wake as ByWake}
 use Rattle.psci_script.specs.Line.{line_of}
 use Rattle.psci_script.specs.declared.grammar.Line.TheVariants.{Event as Says}
 use Rattle.psci_script.proofs.Scripts.{reading}
@@ -19,19 +16,11 @@ use Rattle.psci_show.specs.Shown.{HasRows, IsEventRow, IsHeading, IsShown, front
 use Rattle.psci_script.proofs.Tables.{◌⇒◌, Gives}
 use Rattle.std.proofs.lemmas.Bool.{eqb-false}
 
--- lines of 80 columns, with a legend and without
-abbrev with_legend : Form
-with_legend = Lines (record { width = 80; color = false; legend = true })
-
 abbrev plain : Form
 plain = Lines (record { width = 80; color = false; legend = false })
 
 abbrev wake : Record
 wake = record { event = Wake 3; said = Ignored }
-
--- the same, and the core is started
-abbrev kicked : Record
-kicked = record { event = Wake 3; said = Kick (record { life = 1; number = 2; cause = ByWake }) }
 
 abbrev take : Record
 take = record { event = Take 7; said = Absent }
@@ -56,37 +45,6 @@ woken number answer =
 
 -- A row -------------------------------------------------------------------------------------------
 
-rows : IsEventRow plain 7 wake (codes "   7  R.. a wake-up\n")
-    × IsEventRow Json 7 wake (woken 7 (codes "ignored") ++ codes "}\n")
-    × IsEventRow Json 7 kicked (woken 7 (codes "started 2") ++ codes ", \"life\": 1}\n")
-unfolding digits reading
-rows = (
-  record {
-    line = codes "wake 3";
-    says = refl;
-    answer = codes "ignored";
-    answered = refl;
-    more = codes "  R.. a wake-up\n";
-    is = refl;
-  },
-  record {
-    line = codes "wake 3";
-    says = refl;
-    answer = codes "ignored";
-    answered = refl;
-    more = codes "}\n";
-    is = refl;
-  },
-  record {
-    line = codes "wake 3";
-    says = refl;
-    answer = codes "started 2";
-    answered = refl;
-    more = codes ", \"life\": 1}\n";
-    is = refl;
-  },
-)
-
 fourth : List ℕ → ℕ
 fourth (a ∷ b ∷ c ∷ d ∷ rest) = d
 fourth other = 0
@@ -98,10 +56,6 @@ row_of_another_number k = eqb-false 56 55 refl (ap fourth k.is)
 -- the byte at a place
 abbrev place : ℕ → List ℕ → ℕ
 place n text = slice_index_or text n 0
-
-object_of_another_number : IsEventRow Json 7 wake (woken 8 (codes "ignored")) → ⊥
-unfolding digits
-object_of_another_number k = eqb-false 56 55 refl (ap (place 11) k.is)
 
 row_of_another_answer : (text : List ℕ) (k : IsEventRow Json 7 wake text)
     → k.answer ≡ codes "started 2" → ⊥
@@ -118,9 +72,6 @@ row_of_another_event text k differs = differs k.says
 
 no_heading : IsHeading plain []
 no_heading = λ _. refl
-
-any_legend : IsHeading with_legend (codes "  R  the core runs\n")
-any_legend = λ no. absurd (cc)
 
 legend_unasked : IsHeading plain (codes "R") → ⊥
 legend_unasked h = eqb-false 1 0 refl (ap length (h refl))

@@ -1,7 +1,6 @@
 -- Worked examples of a world that settles after a storm, on a board of one core.
 use Rattle.std.proofs.Common.{◌≡◌, ◌∙◌, ◌<◌, ◌≤◌, ◌++◌, ℕ, zero, suc, List, [], ◌∷◌, true, false}
-use Rattle.std.proofs.Common.{length, refl, ap, sym, subst, arith, length-append}
-use Rattle.std.proofs.Common.{rules}
+use Rattle.std.proofs.Common.{length, refl, ap, sym, subst, arith, length-append, rules}
 use Rattle.std.proofs.lemmas.List.Sums.{AllPass-from_list_all}
 use Rattle.std.specs.Prelude.{Bool, ◌==◌, drop, if◌then◌else◌, take}
 use Rattle.psci_world.specs.psci_board.Board.{size_below}
@@ -12,7 +11,6 @@ use Rattle.psci_world.specs.Settles.{ComesToRest}
 use Rattle.psci_world.specs.Settling.{is_halting, settled}
 use Rattle.psci_world.specs.psci_world_spec.declared.event.Event.{Event}
 use Rattle.psci_world.specs.psci_world_spec.declared.event.Event.TheVariants.{Enter, Deliver, Take}
-use Rattle.psci_world.specs.psci_world_spec.declared.event.Event.TheVariants.{Wake}
 use Rattle.psci_world.specs.psci_world_spec.declared.said.Record.{Record}
 use Rattle.psci_world.specs.psci_world_spec.Histories.{controller_values, firmware_values}
 use Rattle.psci_world.specs.psci_world_spec.Places.{place}
@@ -20,7 +18,7 @@ use Rattle.psci_world.specs.psci_world_spec.Legal.{IsLegalPast, run_from}
 use Rattle.psci_world.proofs.world_spec.Runs.{stays_legal}
 use Rattle.psci_world.proofs.world_spec.Scripts.{one_core, system_off}
 use Rattle.psci_storm.proofs.DrawnRows.{after, asleep, computing, drawn_length, going_off}
-use Rattle.psci_storm.proofs.DrawnRows.{none_drawn, none_drawn_yet, suspend, two_drawn, wrong}
+use Rattle.psci_storm.proofs.DrawnRows.{none_drawn, suspend, two_drawn, wrong}
 
 -- A world at rest ---------------------------------------------------------------------------------
 
@@ -37,31 +35,6 @@ at_place P core cluster (suc zero) zero high inside = cluster
 at_place P core cluster zero (suc place) high inside = absurd (omega arith)
 at_place P core cluster (suc zero) (suc place) high inside = absurd (omega arith)
 at_place P core cluster (suc (suc level)) place high inside = absurd (omega arith)
-
-new_world_rests : ComesToRest one_core [] (after (Enter 0 ∷ [])) (Quiet 0)
-unfolding computing
-new_world_rests = record {
-  rounds = 0;
-  added = after (Enter 0 ∷ []);
-  quiet = refl;
-  more = refl;
-  settled = record {
-    legal = (refl, tt);
-    events = search (rules, AllPass-from_list_all);
-    rest = record {
-      own = at_core _ refl;
-      system = refl;
-      entered = at_core _ (λ e. cc);
-      agree = λ n has. at_place (λ level place.
-          (firmware_values one_core (after (Enter 0 ∷ []))).granted level place
-          ≡ (controller_values one_core (after (Enter 0 ∷ []))).depth level place)
-          refl refl n.level n.place has.level has.place;
-    };
-    few = omega arith;
-    most = λ k m at kind. omega arith;
-    some = λ low. absurd (omega arith);
-  };
-}
 
 -- the core sleeps, once its Down was answered
 abbrev pub rested : List Event
@@ -103,16 +76,6 @@ sleeping_world_rests = record {
 abbrev Blows : ℕ → List Event → Settled → Type 0
 Blows count events s = IsBlown one_core [] count (after events) s
 
-pub calm : Blows 0 (Enter 0 ∷ []) (Quiet 0)
-unfolding computing
-calm = record {
-  middle = [];
-  drawn = none_drawn_yet;
-  halting = λ e. let never : false ≡ true = e in absurd cc;
-  quiet = λ e. (refl, refl);
-  rest = λ e. new_world_rests;
-}
-
 pub sleeps : Blows 2 rested (Quiet 1)
 unfolding computing
 sleeps = record {
@@ -147,23 +110,6 @@ of_none after s h = subst (λ (m : List Record). is_halting one_core m ≡ false
 not_settled : Blows 0 [] (Quiet 0) → ⊥
 unfolding run_from
 not_settled h = let after = (of_none [] (Quiet 0) h).1 in cc
-
--- it has settled, and says another number of rounds
-other_rounds : Blows 0 (Enter 0 ∷ []) (Quiet 1) → ⊥
-other_rounds h =
-    let s : Quiet 1 ≡ Quiet 0 = (of_none (after (Enter 0 ∷ [])) (Quiet 1) h).0 in cc
-
--- an event happened after it had settled
-one_event_more : Blows 0 (Enter 0 ∷ Wake 0 ∷ []) (Quiet 0) → ⊥
-unfolding run_from
-one_event_more h =
-    let many = ap length (of_none (after (Enter 0 ∷ Wake 0 ∷ [])) (Quiet 0) h).1 in
-    absurd (omega arith)
-
--- a world that comes to rest is said to halt
-pub rest_said_to_halt : Blows 0 (Enter 0 ∷ []) Halting → ⊥
-rest_said_to_halt h =
-    let s : Halting ≡ Quiet 0 = (of_none (after (Enter 0 ∷ [])) Halting h).0 in cc
 
 either : {A : Type 0} (b : Bool) → (b ≡ true → A) → (b ≡ false → A) → A
 either true holds fails = holds refl
@@ -205,43 +151,6 @@ halt_moves_on h =
     absurd (omega arith))
     (λ e. let s : Halting ≡ Quiet (settled one_core h.middle).rounds = (h.quiet e).0 in cc)
 
--- more events are drawn than happen
-pub more_drawn : (s : Settled) → Blows 2 (Enter 0 ∷ []) s → ⊥
-unfolding run_from
-more_drawn s h =
-    let many = drawn_length [] h.middle 2 h.drawn in
-    either (is_halting one_core h.middle)
-    (λ e. let same = ap length (h.halting e).1 in absurd (omega arith))
-    (λ e. let rest = h.rest e in
-    let all = ap length rest.more ∙ length-append rest.added h.middle in absurd (omega arith))
-
--- fewer events are drawn than happened before it settled
-fewer_drawn : Blows 0 rested (Quiet 1) → ⊥
-fewer_drawn h = let s : Quiet 1 ≡ Quiet 0 = (of_none (after rested) (Quiet 1) h).0 in cc
-
--- the records that were there are gone
-past_is_gone : IsBlown one_core (after rested) 0 [] (Quiet 0) → ⊥
-unfolding run_from
-past_is_gone h =
-    let many = drawn_length (after rested) h.middle 0 h.drawn in
-    either (is_halting one_core h.middle)
-    (λ e. let same = ap length (h.halting e).1 in absurd (omega arith))
-    (λ e. let rest = h.rest e in
-    let all = ap length rest.more ∙ length-append rest.added h.middle in absurd (omega arith))
-
-before_it : (added past : List Record) → IsLegalPast one_core (added ++ past)
-    → IsLegalPast one_core past
-before_it [] past legal = legal
-before_it (r ∷ added) past legal = before_it added past legal.1
-
 pub wrong_is_not_legal : IsLegalPast one_core (wrong ∷ []) → ⊥
 unfolding computing
 wrong_is_not_legal legal = let said = legal.0 in cc
-
--- a world whose past is not legal never comes to rest
-wrong_past : (after : List Record) (s : Settled) → IsBlown one_core (wrong ∷ []) 0 after s → ⊥
-unfolding computing
-wrong_past after s h =
-    let rest = subst (λ (m : List Record). is_halting one_core m ≡ false
-    → ComesToRest one_core m after s) (none_drawn (wrong ∷ []) h.middle h.drawn) h.rest refl in
-    wrong_is_not_legal (before_it rest.added (wrong ∷ []) rest.settled.legal)

@@ -10,8 +10,7 @@ use Rattle.psci_world.specs.psci_world_spec.declared.said.Record.{Record}
 use Rattle.psci_world.specs.psci_world_spec.Legal.{run_from}
 use Rattle.psci_world.proofs.world_spec.Scripts.{one_core}
 use Rattle.psci_storm.proofs.BlownRows.{rested}
-use Rattle.psci_storm.proofs.DrawnRows.{after, asleep, computing, drawn_length, none_drawn, suspend}
-use Rattle.psci_storm.proofs.DrawnRows.{two_drawn}
+use Rattle.psci_storm.proofs.DrawnRows.{after, asleep, computing, none_drawn, suspend, two_drawn}
 
 -- two of three events had happened
 cut_among_events : IsCutShort one_core [] 3 (after asleep)
@@ -45,12 +44,3 @@ cut_beyond_settling (inr all) =
     let way = subst (λ (m : List Record). IsOnTheWay (after asleep) (settled one_core m).past)
     (none_drawn [] all.0 all.1) all.3 in
     beyond way.0 way.1
-
--- what had happened is gone
-cut_without_past : IsCutShort one_core (after rested) 1 [] → ⊥
-unfolding run_from
-cut_without_past (inl few) =
-    let many = drawn_length (after rested) [] few.0 few.2 in absurd (omega arith)
-cut_without_past (inr all) =
-    let many = drawn_length (after rested) all.0 1 all.1 in
-    let whole = ap length all.2.1 ∙ length-append all.2.0 all.0 in absurd (omega arith)

@@ -1,19 +1,15 @@
 -- Worked examples of events that were drawn, on a board of one core.
 use Rattle.std.proofs.lemmas.Bool.Decides.{nat_tests}
-use Rattle.std.proofs.Common.{◌==◌, false}
-use Rattle.std.proofs.Common.{◌≡◌, ◌∙◌, ◌+◌, ◌++◌, ℕ, List, [], ◌∷◌}
-use Rattle.std.proofs.Common.{length, refl, ap, sym, subst, arith, length-append}
+use Rattle.std.proofs.Common.{◌==◌, false, ◌≡◌, ◌∙◌, ◌+◌, ℕ, List, [], ◌∷◌, length, refl, ap, arith}
 use Rattle.psci_storm.specs.Storm.{HappensBy, IsDrawn}
-use Rattle.psci_storm.proofs.Blown.{way_on}
 use Rattle.psci_world.specs.Settling.{begun, is_waiting, round, rounds, settled}
 use Rattle.psci_world.specs.psci_world_spec.declared.event.Event.{Event}
-use Rattle.psci_world.specs.psci_world_spec.declared.event.Event.TheVariants.{Enter, Take, Wake}
+use Rattle.psci_world.specs.psci_world_spec.declared.event.Event.TheVariants.{Enter}
 use Rattle.psci_world.specs.psci_world_spec.declared.said.Record.{Record}
 use Rattle.psci_world.specs.psci_world_spec.declared.said.Said.TheVariants.{Ignored}
-use Rattle.psci_world.specs.psci_world_spec.Legal.{IsLegalPast, legal_record, run_from}
-use Rattle.psci_world.proofs.world_spec.Runs.{stays_legal}
+use Rattle.psci_world.specs.psci_world_spec.Legal.{legal_record, run_from}
 use Rattle.psci_world.proofs.world_spec.Scripts as scripts
-use Rattle.psci_world.proofs.world_spec.Scripts.{call, enters, one_core, system_off}
+use Rattle.psci_world.proofs.world_spec.Scripts.{call, one_core, system_off}
 
 -- How the examples are stated ---------------------------------------------------------------------
 
@@ -82,42 +78,6 @@ none_happens : HappensBy one_core (after asleep) (after asleep)
 unfolding run_from
 none_happens = record { events = []; run = refl }
 
-some_happen : HappensBy one_core (after (Enter 0 ∷ [])) (after (Enter 0 ∷ Wake 0 ∷ suspend ∷ []))
-unfolding run_from
-some_happen = record { events = Wake 0 ∷ suspend ∷ []; run = refl }
-
--- what had happened stays
-forgotten : HappensBy one_core (after (Enter 0 ∷ [])) [] → ⊥
-unfolding run_from
-forgotten h =
-    let many = ap length h.run ∙ run_length (after (Enter 0 ∷ [])) h.events in absurd (omega arith)
-
--- what is said is legal
-pub wrong_happens : HappensBy one_core [] (wrong ∷ []) → ⊥
-unfolding computing
-wrong_happens h =
-    let legal = subst (IsLegalPast one_core) (sym h.run) (stays_legal one_core [] h.events tt) in
-    let said = legal.0 in cc
-
--- what happens comes after what had happened: the event before the newest one
-abbrev second : List Record → Event
-second [] = Take 0
-second (r ∷ []) = Take 0
-second (r ∷ s ∷ past) = s.event
-
-no_more : (added : List Record)
-    → after (Wake 0 ∷ suspend ∷ []) ≡ added ++ after (Enter 0 ∷ []) → ⊥
-unfolding run_from
-no_more [] e = let many = ap length e in absurd (omega arith)
-no_more (r ∷ []) e = let event : Wake 0 ≡ Enter 0 = ap second e in cc
-no_more (r ∷ s ∷ added) e =
-    let many = ap length e ∙ length-append (r ∷ s ∷ added) (after (Enter 0 ∷ [])) in
-    absurd (omega arith)
-
-other_past : HappensBy one_core (after (Enter 0 ∷ [])) (after (Wake 0 ∷ suspend ∷ [])) → ⊥
-other_past h =
-    let more = way_on one_core (after (Enter 0 ∷ [])) h.events in no_more more.0 (h.run ∙ more.1)
-
 -- Events that are drawn ---------------------------------------------------------------------------
 
 pub none_drawn_yet : IsDrawn one_core [] 0 []
@@ -126,11 +86,3 @@ none_drawn_yet = record { drawn = []; many = refl; run = refl }
 
 pub two_drawn : IsDrawn one_core [] 2 (after asleep)
 two_drawn = record { drawn = asleep; many = refl; run = refl }
-
--- after an event before
-one_more_drawn : IsDrawn one_core (after (Enter 0 ∷ [])) 1 (after asleep)
-unfolding run_from
-one_more_drawn = record { drawn = suspend ∷ []; many = refl; run = refl }
-
-wrong_drawn : IsDrawn one_core [] 1 (wrong ∷ []) → ⊥
-wrong_drawn h = wrong_happens (record { events = h.drawn; run = h.run })
