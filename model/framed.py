@@ -1,8 +1,7 @@
-"""Holds the frames of frame.py to what is proved of frames, and to frames that were recorded.
+"""Holds the frames of frame.py to frames that were recorded, and to themselves.
 
-`examples` works out psci_examples' theorems of frames with two faults; `records` reads each frame of the
-stored records, and spells what the model sends in the same runs; `random` reads frames that were drawn, and
-the same with a byte changed.
+`records` reads each frame of the stored records, and spells what the model sends in the same runs; `random` reads
+frames that were drawn, and the same with a byte changed.
 """
 import os
 import random as randoms
@@ -12,10 +11,8 @@ import tarfile
 from collections import Counter
 
 import frame as frames
-from alike import text_of
 from board import Board
 from firmware import Ack, Message
-from proved import Examples
 from script import World, answer
 
 TOP = os.path.dirname(os.path.dirname(os.path.abspath(__file__)))
@@ -28,27 +25,6 @@ LEAST = 20
 RUNS = ("short.record", "probe.record", "os-initiated.record")
 BOARDS = ("2 exec 0x0-0x4 boot 0x0 starts 9 lives 9", "(2 2) exec 0x0-0x4 boot 0x0 starts 9 lives 9",
           "((1 2) (3)) exec 0x0-0x4 boot 0x0 starts 9 lives 9")
-
-
-# ---- the examples
-
-RULES = {
-    "faults": {name: at for at, name in enumerate(frames.FAULTS, 1)},
-    "first_fault": lambda b: lambda it: frames.first_fault(bytes(it), Board(text_of(b))),
-}
-
-
-def examples():
-    """Whether the model says of each example what is proved."""
-    wrong, many = [], 0
-    for theorem, sides in Examples(RULES, "psci_examples", "psci_link/proofs/Bytes").rows("FramePairRows"):
-        many += 1
-        if sides is None:
-            wrong.append(f"{theorem} has names that are unknown here")
-        elif sides[0] != sides[1]:
-            wrong.append(f"{theorem}: the model says {sides[0]}, and {sides[1]} is proved")
-    print("\n".join(wrong) or f"{many} examples of frames are as proved")
-    return 1 if wrong or not many else 0
 
 
 # ---- the records

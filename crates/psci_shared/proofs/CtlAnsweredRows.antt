@@ -15,7 +15,7 @@ use Rattle.psci_ctl.specs.psci_ctl_spec.psci_messages.declared.kind.Kind.TheVari
 use Rattle.psci_ctl.specs.psci_ctl_spec.psci_messages.declared.start.Cause.TheVariants as causes
 use Rattle.psci_shared.specs.declared.fault.PassFault.TheVariants.{NoCore, TooMany, Memory}
 use Rattle.psci_shared.specs.CtlEntries.{CtlEntry, CtlItem}
-use Rattle.psci_shared.specs.CtlAnswered.{IsAnsweredAfter, IsFull}
+use Rattle.psci_shared.specs.CtlAnswered.{IsAnswered, IsAnsweredAfter, IsFull}
 use Rattle.psci_shared.specs.CtlBooks.{BookView, IsTold, entry, history_of}
 use Rattle.psci_shared.specs.CtlLocked.{IsTurnedAway}
 use Rattle.psci_shared.specs.Views.{item, told}
@@ -70,6 +70,12 @@ pass items = record { core = tt; room = 4; told_full = false; items = items; see
 
 -- A call -----------------------------------------------------------------------------------------
 
+-- the first of all
+first_of_all : IsAnswered board (pass []) (pass (item 0 (reset 1) (reset_to 1) ∷ [])) (reset 1)
+    (reset_to 1)
+unfolding computing
+first_of_all = ([], (tt, refl, refl))
+
 abbrev old : CtlItem
 old = item 0 (reset 1) (reset_to 1)
 
@@ -78,6 +84,11 @@ core_1_is_woken : IsAnsweredAfter board entries (pass (old ∷ []))
     (pass (old ∷ item 2 (wake 1 2) (woken_to 3) ∷ [])) (wake 1 2) (woken_to 3)
 unfolding computing
 core_1_is_woken = ((refl, omega arith, (refl, omega arith, tt)), refl, refl)
+
+so_it_is_answered : IsAnswered board (pass (old ∷ []))
+    (pass (old ∷ item 2 (wake 1 2) (woken_to 3) ∷ [])) (wake 1 2) (woken_to 3)
+unfolding computing
+so_it_is_answered = (entries, ((refl, omega arith, (refl, omega arith, tt)), refl, refl))
 
 -- a call of a pass without items once both resets were entered: its items then, and its reply
 abbrev Answers : CtlCall → List CtlItem → CtlReply → Type 0

@@ -1,6 +1,6 @@
 -- Worked examples of what is written of each core, and of what a poll answers; of a run of a pass:
--- calls and polls, what it keeps of what it saw, that this stands in the history, and why no pass is
--- made.
+-- calls and polls, what it keeps of what it saw, that this stands in the history, and why no pass
+-- is made.
 use Rattle.std.proofs.Common.{◌≡◌, inl, inr, ℕ, ◌<◌, ◌≤◌, false, List, [], ◌∷◌, length, refl, ap}
 use Rattle.std.proofs.Common.{arith, Some, None, ◌∙◌, sym, zero, suc, Bool, true, Option, pos}
 use Rattle.std.proofs.Common.{negsuc}
