@@ -1,145 +1,27 @@
 """Holds what ./psci makes of a machine's words (tools/front) to the rules of machine.py.
 
-`examples` works out each theorem of psci_platform's examples by both; `random` compares both on random
-texts and calls; `scripts` answers the stored calls of examples/boards by this model alone.
+`random` compares both on random texts and calls; `scripts` answers the stored calls of examples/boards by this model
+alone. The C library answers the same calls (tests/hosts/machine-library).
 """
 import glob
 import os
 import sys
 from collections import Counter
-from types import SimpleNamespace
 
 import firmware as fw
 import machine as rules
-from board import Board, Fault
+from board import Fault
 from draw_machine import DrawMachine
-from proved import Examples, Record
 from script import World, number
 
 TOP = os.path.dirname(os.path.dirname(os.path.abspath(__file__)))
 sys.path.insert(0, f"{TOP}/tools")
-from front import machine_calls, machine_faults, machine_swap, machines, plain
+from front import machine_calls, machine_faults, machine_swap, machines
 
-# how many calls of a text are compared; how often each fault has to come; how many examples have to be read
-CALLS, LEAST, LEAST_PROVED = 12, 20, 190
+# how many calls of a text are compared; how often each fault has to come
+CALLS, LEAST = 12, 20
 FAULTS = ("WrongCount", "BadMpidr", "SameMpidr", "NoBootCore", "LateBootCore", "TooManyLevels", "FallingClass",
           "TooManyRows", "BadWord", "SameWord", "WrongType", "BadStates", "BadSystem", "BadFunctions")
-NUMBERS = {name: at for at, name in enumerate(FAULTS, 1)}
-
-
-# ---- the examples of psci_platform
-
-def tree(levels):
-    """The tree of a board text from the children of each domain, level by level."""
-    parts = [str(it) for it in levels[0]]
-    for sizes in levels[1:]:
-        parts = [f"({' '.join(parts[sum(sizes[:at]):sum(sizes[:at + 1])])})" for at in range(len(sizes))]
-    return parts[0]
-
-
-def text_of(board):
-    return f"{tree(board.levels)} exec 0x0-0x4 boot 0x0 starts 1 lives 1" + " format extended" * board.format
-
-
-def here(d, board=None, boot=None):
-    """A description of the examples as machine.py has one."""
-    board = Board(text_of(board) if board else "1 exec 0x0-0x4 boot 0x0 starts 1 lives 1")
-    return SimpleNamespace(
-        board=board, mpidrs=d.mpidrs, boot=boot, levels=d.levels, depths=d.classes, system=tuple(d.system),
-        rows=[(it.word, it.mask, tuple(it.states)) for it in d.rows], resets=d.resets,
-        there={name for name, has in vars(d.functions).items() if has})
-
-
-def there(d, board=None, boot=None):
-    """The same as tools/front has one."""
-    board = plain.Board(text_of(board) if board else "1 exec 0x0-0x4 boot 0x0 starts 1 lives 1")
-    return SimpleNamespace(
-        height=len(board.levels) - 1, cores=board.words["core"], is_extended=board.is_extended, places={},
-        mpidrs=d.mpidrs, boot=boot, levels=d.levels, classes=d.classes, system=tuple(d.system),
-        rows=[machines.Row(it.word, it.mask, tuple(it.states)) for it in d.rows], resets=d.resets,
-        functions=frozenset(name for name, has in vars(d.functions).items() if has))
-
-
-def swapped_here(m, level):
-    """Of each domain of a level, in the order of the tree, the place of the one that it is swapped with."""
-    nodes = list(dict.fromkeys(m.board.path(core)[level] for core in m.board.cores))
-    return [nodes.index(rules.moved(m, it)) for it in nodes]
-
-
-def swapped_there(m, level):
-    words = list(dict.fromkeys(it >> 8 * level for it in m.cores))
-    return [words.index(machine_swap.other_word(m, it << 8 * level) >> 8 * level) for it in words]
-
-
-def numbered(board):
-    """A description whose MPIDRs are the places of the cores."""
-    return Record(mpidrs=list(range(sum(board.levels[0]))), levels=0, classes=[], rows=[], system=[], resets=[],
-                  functions=Record())
-
-
-def rules_of(of, translated, fault, states_of, word_for, core_word, depth, swapped, is_symmetric):
-    """The definitions that examples are about, by one of both."""
-    booted = lambda d, b, place: of(d, b, d.mpidrs[place])
-    core_of = lambda b: lambda word: next(iter(Board(text_of(b)).named(word, 0)), None)
-    regs = lambda it: (it.x0, it.x1, it.x2, it.x3)
-    record = lambda it: Record(x0=it[0], x1=it[1], x2=it[2], x3=it[3])
-    board = lambda is_extended: Record(levels=[[1], [1], [1]], format=is_extended)
-    return {
-        "fault_of": lambda d: lambda b: lambda boot: fault(of(d, b, boot)),
-        "regs_for": lambda d: lambda b: lambda boot: lambda mode: lambda it: record(
-            translated(booted(d, b, boot), mode, regs(it))[0]),
-        "asked_for": lambda d: lambda mode: lambda it: translated(of(d), mode, regs(it))[1],
-        "states_of": lambda d: lambda mode: lambda word: listed(states_of(of(d), mode, word)),
-        "word_for": lambda d: lambda is_extended: lambda states: word_for(
-            of(d, board(is_extended)), tuple(states) if states else None),
-        "core_word": lambda d: lambda b: lambda boot: lambda word: lambda level: core_word(
-            booted(d, b, boot), word, level),
-        "number_named": lambda d: lambda b: lambda boot: lambda word: lambda level: core_of(b)(
-            core_word(booted(d, b, boot), word, level)),
-        "boot_place": lambda d: lambda b: lambda boot: d.mpidrs.index(boot),
-        "swap_for": lambda b: lambda boot: lambda level: lambda at: dict(enumerate(
-            swapped(booted(numbered(b), b, boot), level))).get(at, at),
-        "is_symmetric": lambda b: lambda boot: is_symmetric(booted(numbered(b), b, boot)),
-        "depth_at": lambda d: lambda level: lambda at: depth(of(d), level, at) if level < 4 else 3,
-        "depths_of": lambda d: lambda states: [depth(of(d), level, at) for level, at in enumerate(states)],
-        "no_core": rules.NOTHING, "no_state": rules.NOTHING,
-        "core_of": core_of,
-        "node_of": lambda b: lambda word: lambda level: next(iter(Board(text_of(b)).named(word, level)), None),
-    }
-
-
-def listed(states):
-    return None if states is None else list(states)
-
-
-BOTH = {
-    "the model": rules_of(here, rules.asked, lambda it: rules.fault(it) or None, rules.states_of,
-                          rules.board_word, rules.named, rules.depth, swapped_here, rules.symmetric),
-    "tools/front": rules_of(there, machine_calls.translated, lambda it: (machine_faults.first(it) or [None])[0],
-                            machine_calls.states_of, machine_calls.word_for, machine_calls.core_word,
-                            machine_faults.depth, swapped_there, machine_swap.is_symmetric),
-}
-
-
-def examples():
-    """Whether both say of each example what is proved."""
-    wrong, many, left_out = [], 0, 0
-    for name, by in BOTH.items():
-        for theorem, sides in Examples({**by, "faults": NUMBERS}, "psci_platform", "Machines").rows():
-            many, left_out = many + bool(sides), left_out + (not sides)
-            if sides and plainly(sides[0]) != plainly(sides[1]):
-                wrong.append(f"{theorem}: {name} says {sides[0]}, and {sides[1]} is proved")
-    many, left_out = many // len(BOTH), left_out // len(BOTH)
-    print("\n".join(wrong) or f"{many} examples of psci_platform are as proved, by both" +
-          f"; {left_out} are of names that are unknown here" * bool(left_out))
-    return 1 if wrong or many < LEAST_PROVED else 0
-
-
-def plainly(value):
-    """A value that can be compared."""
-    if isinstance(value, Record):
-        return {name: plainly(it) for name, it in vars(value).items()}
-    return [plainly(it) for it in value] if isinstance(value, (list, tuple)) else value
 
 
 # ---- random texts
