@@ -1,19 +1,62 @@
 -- The function words, the arguments and the results of a call.
-use Rattle.std.specs.Prelude.{ℕ, ◌+◌, ◌%◌, ◌/◌, ◌^◌, Bool, true, false, ◌||◌}
-use Rattle.std.specs.Prelude.{◌==◌, if◌then◌else◌, ℤ, pos}
 use Rattle.std.specs.Int.{cast_unsigned, w32, w64}
-use Rattle.psci_abi.specs.Codes.{not_supported}
-use Rattle.psci_abi.specs.declared.code.Code.{Code}
-use Rattle.psci_abi.specs.declared.format.Format.{Format}
-use Rattle.psci_abi.specs.declared.format.Format.TheVariants.{Original, Extended}
+use Rattle.std.specs.Prelude.{◌%◌, ◌+◌, ◌/◌, ◌==◌, ◌^◌, ◌||◌, Bool, false, if◌then◌else◌, negsuc}
+use Rattle.std.specs.Prelude.{pos, true, ℕ, ℤ}
+use Rattle.psci_abi.specs.declared.registers.Code.{Code}
+use Rattle.psci_abi.specs.declared.registers.Format.{Format}
+use Rattle.psci_abi.specs.declared.registers.Format.TheVariants.{Extended, Original}
 use Rattle.psci_abi.specs.declared.registers.Regs.{Regs}
 use Rattle.psci_abi.specs.declared.request.Request.{Request}
-use Rattle.psci_abi.specs.declared.request.Request.TheVariants.{Version, CpuSuspend, CpuOff, CpuOn}
-use Rattle.psci_abi.specs.declared.request.Request.TheVariants.{AffinityInfo, MigrateInfoType}
-use Rattle.psci_abi.specs.declared.request.Request.TheVariants.{SystemOff, SystemReset, Features}
-use Rattle.psci_abi.specs.declared.request.Request.TheVariants.{NodeHwState, SystemSuspend}
-use Rattle.psci_abi.specs.declared.request.Request.TheVariants.{SetSuspendMode, SystemReset2}
-use Rattle.psci_abi.specs.declared.request.Request.TheVariants.{Unknown}
+use Rattle.psci_abi.specs.declared.request.Request.TheVariants.{AffinityInfo, CpuOff, CpuOn}
+use Rattle.psci_abi.specs.declared.request.Request.TheVariants.{CpuSuspend, Features}
+use Rattle.psci_abi.specs.declared.request.Request.TheVariants.{MigrateInfoType, NodeHwState}
+use Rattle.psci_abi.specs.declared.request.Request.TheVariants.{SetSuspendMode, SystemOff}
+use Rattle.psci_abi.specs.declared.request.Request.TheVariants.{SystemReset, SystemReset2}
+use Rattle.psci_abi.specs.declared.request.Request.TheVariants.{SystemSuspend, Unknown, Version}
+
+-- Return codes (DEN0022D, the table of error codes) -----------------------------------------------
+
+-- SUCCESS: the function was carried out
+abbrev pub success : Code
+success = record { 0 = pos 0 }
+
+-- NOT_SUPPORTED: the firmware does not have the function
+abbrev pub not_supported : Code
+not_supported = record { 0 = negsuc 0 }
+
+-- INVALID_PARAMETERS: an argument names nothing, or is no value that the function takes
+abbrev pub invalid_parameters : Code
+invalid_parameters = record { 0 = negsuc 1 }
+
+-- DENIED: the state of other cores does not allow it
+abbrev pub denied : Code
+denied = record { 0 = negsuc 2 }
+
+-- ALREADY_ON: the core is on
+abbrev pub already_on : Code
+already_on = record { 0 = negsuc 3 }
+
+-- ON_PENDING: the core has been asked on and has not entered yet
+abbrev pub on_pending : Code
+on_pending = record { 0 = negsuc 4 }
+
+-- INTERNAL_FAILURE: the machine cannot do it
+abbrev pub internal_failure : Code
+internal_failure = record { 0 = negsuc 5 }
+
+-- NOT_PRESENT: there is no trusted OS on the core
+abbrev pub not_present : Code
+not_present = record { 0 = negsuc 6 }
+
+-- DISABLED: the core is disabled in hardware
+abbrev pub disabled : Code
+disabled = record { 0 = negsuc 7 }
+
+-- INVALID_ADDRESS: the entry point may not be entered
+abbrev pub invalid_address : Code
+invalid_address = record { 0 = negsuc 8 }
+
+-- Calls -------------------------------------------------------------------------------------------
 
 -- the low half of a register, or of an argument: the function word, and what has 32 bits
 abbrev pub low_half : ℕ → ℕ

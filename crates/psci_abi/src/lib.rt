@@ -9,20 +9,13 @@
 //!   where it has its fields: the original format, or the one with an extended StateID.
 #![tactic(auto)]
 
-mod calling;
-mod code;
-mod flags;
-mod format;
 mod functions;
 mod parameter;
 mod registers;
 mod request;
 pub mod words;
 
-pub use code::Code;
-pub use flags::features;
-pub use format::Format;
 pub use functions::Function;
 pub use parameter::Parameter;
-pub use registers::{Regs, low};
+pub use registers::{Code, Format, Regs, features, low};
 pub use request::{Request, read};

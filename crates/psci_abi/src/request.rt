@@ -1,14 +1,14 @@
 //! A function and its arguments.
 
-ghost use Rattle.std.specs.Prelude.{◌≡◌};
+ghost use Rattle.std.specs.Prelude.{◌≡◌, true};
 ghost use Rattle.psci_abi.specs.Calls.{function_of, request_of};
-ghost use Rattle.psci_abi.specs.Functions.{arguments_of, function_in};
+ghost use Rattle.psci_abi.specs.Functions.{arguments_of, function_in, registers_of, word_for};
 
 use crate::functions::Function;
 use crate::registers::{Regs, low, narrow};
 use crate::words::{
     AFFINITY_INFO_32, AFFINITY_INFO_64, CPU_OFF, CPU_ON_32, CPU_ON_64, CPU_SUSPEND_32,
-    CPU_SUSPEND_64, MIGRATE_INFO_TYPE, NODE_HW_STATE_32, NODE_HW_STATE_64, PSCI_FEATURES,
+    CPU_SUSPEND_64, MIGRATE, MIGRATE_INFO_TYPE, NODE_HW_STATE_32, NODE_HW_STATE_64, PSCI_FEATURES,
     PSCI_SET_SUSPEND_MODE, PSCI_VERSION, SYSTEM_OFF, SYSTEM_RESET, SYSTEM_RESET2_32,
     SYSTEM_RESET2_64, SYSTEM_SUSPEND_32, SYSTEM_SUSPEND_64,
 };
@@ -231,5 +231,36 @@ pub fn function(word: u32, x1: u64, x2: u64, x3: u64) -> Request
         PSCI_SET_SUSPEND_MODE => Request::SetSuspendMode { mode: low(x1) },
         SYSTEM_RESET2_32 | SYSTEM_RESET2_64 => Request::system_reset2(low(x1), x2),
         _ => Request::Unknown,
+    }
+}
+
+// How a request is called: by which registers.
+
+impl Request {
+    /// The registers by which a request is called, in the SMC64 convention where it is wanted and
+    /// the function has a word there. In the SMC32 convention the upper halves are not read. An
+    /// unknown function is called as MIGRATE, which is not supported.
+    pub fn registers(self, wide: bool) -> Regs
+        ensures value { result ≡ registers_of wide self }
+        ensures again { wide ≡ true → request_of result ≡ self }
+    {
+        let [x1, x2, x3] = self.arguments();
+        Regs {
+            x0: u64::from(word_for(self.function(), wide)),
+            x1,
+            x2,
+            x3,
+        }
+    }
+}
+
+/// The word by which a function is called, in the SMC64 convention where it is wanted and there.
+fn word_for(function: Option<Function>, wide: bool) -> u32
+    ensures { result ≡ word_for wide function }
+{
+    match function {
+        None => MIGRATE,
+        Some(function) if wide => function.wide_word().unwrap_or(function.narrow_word()),
+        Some(function) => function.narrow_word(),
     }
 }

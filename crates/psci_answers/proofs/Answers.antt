@@ -1,7 +1,7 @@
 -- What was told of a run is its answer text, or a front part of it.
-use Rattle.std.proofs.Common.{◌≡◌, ℕ, ◌+◌, List, [], ◌∷◌, ◌++◌, length, take, drop, refl, ap, sym}
-use Rattle.std.proofs.Common.{◌∙◌}
-use Rattle.std.proofs.Common.{append-nil, append_assoc, subst, Option, None, Some, Result, Ok, Err}
+use Rattle.std.proofs.Common.{◌++◌, ◌+◌, ◌∙◌, ◌∷◌, ◌≡◌, [], ap, append-nil, append_assoc, drop}
+use Rattle.std.proofs.Common.{Err, length, List, None, Ok, Option, refl, Result, Some, subst}
+use Rattle.std.proofs.Common.{sym, take, ℕ}
 use Rattle.std.proofs.Math.Seq.{take-append_seam}
 use Rattle.std.proofs.lemmas.List.{take-append-drop}
 use Rattle.std.specs.Io.KnownBytes.{Appends}
@@ -11,15 +11,15 @@ use Rattle.psci_script.specs.psci_board.declared.fault.BoardFault.{BoardFault}
 use Rattle.psci_script.specs.psci_world_spec.declared.said.Record.{Record}
 use Rattle.psci_script.specs.declared.fault.Replayed.{Replayed}
 use Rattle.psci_script.specs.declared.fault.ReplayFault.{ReplayFault}
-use Rattle.psci_script.specs.declared.fault.ReplayFault.TheVariants.{Script, Board, Read, Write}
-use Rattle.psci_script.specs.declared.fault.ReplayFault.TheVariants.{Memory}
+use Rattle.psci_script.specs.declared.fault.ReplayFault.TheVariants.{Board, Memory, Read, Script}
+use Rattle.psci_script.specs.declared.fault.ReplayFault.TheVariants.{Write}
 use Rattle.psci_script.specs.declared.fault.ScriptFault.{ScriptFault}
-use Rattle.psci_script.specs.Lines.{lines}
+use Rattle.psci_script.specs.EventText.{lines}
 use Rattle.psci_script.specs.Script.{board_line, transcript, transcript_of_board}
 use Rattle.psci_script.specs.Script.{transcript_of_first, transcript_of_lines}
 use Rattle.psci_script.specs.Text.{answer_line}
-use Rattle.psci_script.specs.Run.{AnswersLines, AnswersPart, Replays, WritesAnswers}
-use Rattle.psci_script.specs.ScriptRun.{GoesOn, ScriptRun, run_by, run_of, run_of_lines, run_on}
+use Rattle.psci_script.specs.Progress.{AnswersLines, AnswersPart, Replays, WritesAnswers}
+use Rattle.psci_script.specs.Told.{GoesOn, run_by, run_of, run_of_lines, run_on, ScriptRun}
 use Rattle.psci_script.specs.Told.{Tells, TellsAll, TellsLines, TellsPart}
 use Rattle.psci_answers.specs.ScriptRun.{AnswersRun, text_of}
 use Rattle.psci_answers.proofs.ScriptRuns.{rest_text}

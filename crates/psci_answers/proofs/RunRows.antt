@@ -1,7 +1,7 @@
 -- Worked examples: the answer text of a run, and what a replay prints by its end; and for each
 -- clause something that breaks it.
-use Rattle.std.proofs.Common.{◌≡◌, ℕ, zero, suc, List, [], ◌∷◌, length}
-use Rattle.std.proofs.Common.{Option, None, Some, Ok, Err, Result, refl, ap}
+use Rattle.std.proofs.Common.{◌∷◌, ◌≡◌, [], ap, Err, length, List, None, Ok, Option, refl}
+use Rattle.std.proofs.Common.{Result, Some, suc, zero, ℕ}
 use Rattle.std.specs.Prelude.{codes}
 use Rattle.std.specs.Fmt.{digits}
 use Rattle.psci_script.specs.psci_board.Board.{BoardValue}
@@ -11,16 +11,16 @@ use Rattle.psci_script.specs.psci_world_spec.declared.said.Said.TheVariants.{Abs
 use Rattle.psci_script.specs.psci_world_spec.Legal.{IsLegalPast}
 use Rattle.psci_script.specs.declared.fault.Replayed.{Replayed}
 use Rattle.psci_script.specs.declared.fault.ReplayFault.{ReplayFault}
-use Rattle.psci_script.specs.declared.fault.ReplayFault.TheVariants.{Script, Board, Read, Write}
-use Rattle.psci_script.specs.declared.fault.ReplayFault.TheVariants.{Memory}
+use Rattle.psci_script.specs.declared.fault.ReplayFault.TheVariants.{Board, Memory, Read, Script}
+use Rattle.psci_script.specs.declared.fault.ReplayFault.TheVariants.{Write}
 use Rattle.psci_script.specs.declared.fault.ScriptFault.TheVariants as faults
 use Rattle.psci_script.specs.Script.{transcript}
 use Rattle.psci_machine.specs.Safe.{AlwaysSafe}
-use Rattle.psci_script.specs.ScriptRun.{ScriptRun, run_of}
+use Rattle.psci_script.specs.Told.{ScriptRun, run_of}
 use Rattle.psci_script.proofs.EndRows.{entered}
-use Rattle.psci_script.proofs.Scripts.{answering, board, text}
-use Rattle.psci_answers.specs.ScriptRun.{AllSafe, IsSafeText, Prints, SaysRun, WritesPart}
-use Rattle.psci_answers.specs.ScriptRun.{WritesRun, text_of}
+use Rattle.psci_script.proofs.Cutting.{answering, board, text}
+use Rattle.psci_answers.specs.ScriptRun.{AllSafe, IsSafeText, Prints, SaysRun, text_of}
+use Rattle.psci_answers.specs.ScriptRun.{WritesPart, WritesRun}
 use Rattle.std.proofs.lemmas.Bool.{eqb-false}
 
 -- the first byte, or 0 of none

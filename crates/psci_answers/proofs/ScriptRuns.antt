@@ -1,6 +1,6 @@
 -- The answer text of a script is that of its run.
-use Rattle.std.proofs.Common.{◌≡◌, ℕ, ◌+◌, List, [], ◌∷◌, ◌++◌, length, Ok, Err, refl, sym, ◌∙◌}
-use Rattle.std.proofs.Common.{Option, None, Some}
+use Rattle.std.proofs.Common.{◌++◌, ◌+◌, ◌∙◌, ◌∷◌, ◌≡◌, [], Err, length, List, None, Ok, Option}
+use Rattle.std.proofs.Common.{refl, Some, sym, ℕ}
 use Rattle.std.specs.Prelude.{IfSome, Result}
 use Rattle.std.proofs.lemmas.List.{append-nil, append_assoc}
 use Rattle.psci_script.specs.psci_board.Board.{BoardValue, IsBoard}
@@ -12,18 +12,18 @@ use Rattle.psci_script.specs.psci_world_spec.declared.said.Record.{Record}
 use Rattle.psci_script.specs.psci_world_spec.Legal.{IsLegalPast, legal, legal_record, run_from}
 use Rattle.psci_script.specs.declared.fault.Replayed.{Replayed}
 use Rattle.psci_script.specs.declared.fault.ReplayFault.{ReplayFault}
-use Rattle.psci_script.specs.declared.fault.ReplayFault.TheVariants.{Read, Write}
-use Rattle.psci_script.specs.declared.fault.ReplayFault.TheVariants.{Memory}
+use Rattle.psci_script.specs.declared.fault.ReplayFault.TheVariants.{Memory, Read, Write}
 use Rattle.psci_script.specs.declared.fault.ScriptFault.{ScriptFault}
 use Rattle.psci_script.specs.declared.grammar.Line.{Line as LineSays}
 use Rattle.psci_script.specs.declared.grammar.Line.TheVariants.{Blank, Event as Says}
-use Rattle.psci_script.specs.Lines.{lines}
-use Rattle.psci_script.specs.Script.{board_line, line_said, transcript, transcript_of_board}
-use Rattle.psci_script.specs.Script.{transcript_of_first, transcript_of_line, transcript_of_lines}
-use Rattle.psci_script.specs.Script.{Transcript, transcript_of_rest}
-use Rattle.psci_script.specs.Run.{WritesAnswers, AnswersPart, Replays}
-use Rattle.psci_script.specs.ScriptRun.{events_of, run_by, run_of_lines, run_on, with_event}
-use Rattle.psci_answers.specs.ScriptRun.{AllSafe, Prints, SaysRun, WritesPart, WritesRun, text_of}
+use Rattle.psci_script.specs.EventText.{lines}
+use Rattle.psci_script.specs.Script.{board_line, line_said, transcript, Transcript}
+use Rattle.psci_script.specs.Script.{transcript_of_board, transcript_of_first}
+use Rattle.psci_script.specs.Script.{transcript_of_line, transcript_of_lines, transcript_of_rest}
+use Rattle.psci_script.specs.Progress.{WritesAnswers, AnswersPart, Replays}
+use Rattle.psci_script.specs.Told.{events_of, run_by, run_of_lines, run_on, with_event}
+use Rattle.psci_answers.specs.ScriptRun.{AllSafe, Prints, SaysRun, WritesPart, WritesRun}
+use Rattle.psci_answers.specs.ScriptRun.{text_of}
 use Rattle.psci_script.specs.Text.{answer_line}
 
 -- what a line says is answered as its event happens, and then the lines after it

@@ -1,17 +1,17 @@
 -- What the answer lines of a script's run say of the world.
-use Rattle.std.specs.Prelude.{◌≡◌, ℕ, ◌+◌, List, [], ◌∷◌, ◌++◌, length, Option, None, Some, Result}
-use Rattle.std.specs.Prelude.{Ok, Err, IfSome, take}
+use Rattle.std.specs.Prelude.{◌++◌, ◌+◌, ◌∷◌, ◌≡◌, [], Err, IfSome, length, List, None, Ok}
+use Rattle.std.specs.Prelude.{Option, Result, Some, take, ℕ}
 use Rattle.std.specs.Io.KnownBytes.{Appends}
 use Rattle.psci_machine.specs.Safe.{AlwaysSafe}
 use Rattle.psci_script.specs.psci_world_spec.declared.said.Record.{Record}
 use Rattle.psci_script.specs.psci_world_spec.Legal.{IsLegalPast}
 use Rattle.psci_script.specs.declared.fault.Replayed.{Replayed}
 use Rattle.psci_script.specs.declared.fault.ReplayFault.{ReplayFault}
-use Rattle.psci_script.specs.declared.fault.ReplayFault.TheVariants.{Script, Board, Read, Write}
-use Rattle.psci_script.specs.declared.fault.ReplayFault.TheVariants.{Memory}
+use Rattle.psci_script.specs.declared.fault.ReplayFault.TheVariants.{Board, Memory, Read, Script}
+use Rattle.psci_script.specs.declared.fault.ReplayFault.TheVariants.{Write}
 use Rattle.psci_script.specs.Script.{transcript}
 use Rattle.psci_script.specs.Text.{answer_line}
-use Rattle.psci_script.specs.ScriptRun.{ScriptRun, run_of}
+use Rattle.psci_script.specs.Told.{ScriptRun, run_of}
 
 -- the answer lines of records, the oldest first
 abbrev pub text_of : List Record → List ℕ

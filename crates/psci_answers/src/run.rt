@@ -1,8 +1,7 @@
 //! Scripts, answered event by event.
 
 ghost use Rattle.std.specs.Prelude.{◌≡◌, false, OnOk, IfErr};
-ghost use Rattle.psci_script.specs.Progress.{OnlyGivenUp};
-ghost use Rattle.psci_script.specs.Run.{Replays};
+ghost use Rattle.psci_script.specs.Progress.{OnlyGivenUp, Replays};
 ghost use Rattle.psci_answers.specs.ScriptRun.{Prints};
 
 use crate::laws::law_safe_scripts;
@@ -21,7 +20,7 @@ struct Answering {
 }
 
 impl Teller<AnswerLines> for Answering {
-    ghost use Rattle.psci_machine.specs.Present.{IsPresent};
+    ghost use Rattle.psci_machine.specs.Seen.{IsPresent};
     ghost use Rattle.psci_answers.specs.ScriptRun.{AnswersRun};
 
     ghost is_at = { λ answering form run. IsPresent run.board run.past answering.present };

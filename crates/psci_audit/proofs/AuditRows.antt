@@ -1,6 +1,6 @@
 -- Worked examples: what an audit answers, and what it does not.
-use Rattle.std.proofs.Common.{◌≡◌, ℕ, [], ◌∷◌, ◌++◌, None, Some, Ok, Err, true, false, pos}
-use Rattle.std.proofs.Common.{ap, refl, arith, length, length-append, reverse}
+use Rattle.std.proofs.Common.{◌++◌, ◌∷◌, ◌≡◌, [], ap, arith, Err, false, length, length-append}
+use Rattle.std.proofs.Common.{None, Ok, pos, refl, reverse, Some, true, ℕ}
 use Rattle.std.proofs.lemmas.List.{length-reverse}
 use Rattle.psci_world_spec.specs.psci_fw_spec.declared.call.FwCall.TheVariants as calls
 use Rattle.psci_world_spec.specs.psci_fw_spec.declared.outcome.Act.{Act}
@@ -8,12 +8,11 @@ use Rattle.psci_world_spec.specs.psci_fw_spec.declared.outcome.Act.TheVariants a
 use Rattle.psci_world_spec.specs.psci_fw_spec.declared.reply.FwReply.TheVariants as replies
 use Rattle.psci_world_spec.specs.psci_messages.declared.start.Cause.TheVariants as causes
 use Rattle.psci_world_spec.proofs.Scripts.{board}
-use Rattle.psci_shared.specs.Entries.{FwEntry}
+use Rattle.psci_shared.specs.Places.{FwEntry}
 use Rattle.psci_audit.proofs.ListRows.{boots, judging, number_in, start, version}
 use Rattle.psci_audit.specs.declared.fault.AuditFault.TheVariants.{Ticket, Illegal, Memory}
-use Rattle.psci_audit.specs.Merged.{IsFault, IsFirstIllegal, IsFollowed, IsJudged, IsSound}
-use Rattle.psci_audit.specs.Merged.{asked_by, merged}
-use Rattle.std.proofs.lemmas.Bool.{eqb-false}
+use Rattle.psci_audit.specs.Merged.{asked_by, IsFault, IsFirstIllegal, IsFollowed, IsJudged}
+use Rattle.psci_audit.specs.Merged.{IsSound, merged}
 
 unfoldable auditing : Unit {0}
 unfolding judging merged
@@ -36,25 +35,13 @@ returns ticket = entry ticket (acts.Return (record { 0 = pos 1 }))
 
 -- Sound ----------------------------------------------------------------------------------------
 
-nothing : IsSound board [] [] 0
+sound_or_not :
+    IsSound board [] [] 0
+    × IsSound board (enters 7 ∷ []) [] 1
+    × ¬ (IsSound board (enters 7 ∷ []) [] 2)
+    × ¬ (IsSound board (enters 7 ∷ enters 8 ∷ []) [] 2)
 unfolding auditing
-nothing = (record { firmware = tt; controller = tt; apart = λ t at other. at }, tt, refl)
-
-one_entry : IsSound board (enters 7 ∷ []) [] 1
-unfolding auditing
-one_entry = (
-  record { firmware = (tt, tt); controller = tt; apart = λ t at other. other },
-  ((omega arith, refl, refl, tt, refl), tt),
-  refl,
-)
-
-not_two : IsSound board (enters 7 ∷ []) [] 2 → ⊥
-unfolding auditing
-not_two sound = eqb-false 1 2 refl sound.2
-
-twice : IsSound board (enters 7 ∷ enters 8 ∷ []) [] 2 → ⊥
-unfolding auditing
-twice sound = let e = sound.1.0.1 in cc
+sound_or_not = search arith
 
 -- Refused --------------------------------------------------------------------------------------
 
@@ -107,17 +94,13 @@ past_the_second is =
     let d = length-append (reverse is.before) (is.entry ∷ is.since) in
     let s = length-reverse is.before in omega (arith, e, d, s, is.at)
 
--- tickets that fall come before an entry that may not follow
-falling : IsFault board (returns 2 ∷ enters 1 ∷ []) [] Ticket
-falling fit = let less = fit.firmware.1.0 in omega (arith, less)
-
-tickets_first : IsFault board (returns 2 ∷ enters 1 ∷ []) [] (Illegal 0) → ⊥
-tickets_first fault = let less = fault.0.firmware.1.0 in omega (arith, less)
-
--- tickets that rise are no fault
-no_ticket_fault : IsFault board (enters 1 ∷ []) [] Ticket → ⊥
-no_ticket_fault cannot =
-    cannot (record { firmware = (tt, tt); controller = tt; apart = λ t at other. other })
+fault_or_not :
+    -- tickets that fall come before an entry that may not follow
+    IsFault board (returns 2 ∷ enters 1 ∷ []) [] Ticket
+    × ¬ (IsFault board (returns 2 ∷ enters 1 ∷ []) [] (Illegal 0))
+    -- tickets that rise are no fault
+    × ¬ (IsFault board (enters 1 ∷ []) [] Ticket)
+fault_or_not = search arith
 
 -- One entry of a list --------------------------------------------------------------------------
 
@@ -125,23 +108,17 @@ no_ticket_fault cannot =
 -- place
 follows : IsFollowed (Ok true) 3 None × IsFollowed (Ok false) 3 (Some (Illegal 3))
     × IsFollowed (Err (record {})) 3 (Some Memory)
-follows = (refl, refl, refl)
-
--- a list that is judged never has a ticket that does not fit
-no_ticket : IsJudged board [] (Err Ticket) → ⊥
-no_ticket judged = judged
-
-two_of_one : IsJudged board (boots ∷ []) (Ok 2) → ⊥
-two_of_one judged = eqb-false 1 2 refl judged.1
+follows = search arith
 
 none_of_one : IsJudged board [] (Err (Illegal 0)) → ⊥
 none_of_one judged = nothing_is_illegal_in_none 0 judged
 
--- the boot core enters, and PSCI_VERSION follows
-two_judged : IsJudged board (boots ∷ version 0 65537 ∷ []) (Ok 2)
+judged_or_not :
+    -- a list that is judged never has a ticket that does not fit
+    ¬ (IsJudged board [] (Err Ticket))
+    × ¬ (IsJudged board (boots ∷ []) (Ok 2))
+    -- the boot core enters, and PSCI_VERSION follows
+    × IsJudged board (boots ∷ version 0 65537 ∷ []) (Ok 2)
+    × IsJudged board (boots ∷ []) (Ok 1)
 unfolding auditing
-two_judged = (((omega arith, refl, tt, refl), ((omega arith, refl, refl, tt, refl), tt)), refl)
-
-is_judged : IsJudged board (boots ∷ []) (Ok 1)
-unfolding auditing
-is_judged = (((omega arith, refl, refl, tt, refl), tt), refl)
+judged_or_not = search arith

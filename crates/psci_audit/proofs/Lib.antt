@@ -1,13 +1,11 @@
-pub mod Apart
+pub mod SoFar
 mod AuditRows
 pub mod ListRows
 pub mod MayFollow
 mod MergedRows
-pub mod Only
 mod OtherRows
-pub mod Reading
-mod ReplyRows
-pub mod SoFar
-pub mod Steps
 pub mod Telling
+mod ReplyRows
+pub mod Steps
+mod SafeRows
 mod ToldRows

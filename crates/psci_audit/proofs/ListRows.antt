@@ -1,6 +1,6 @@
 -- Worked examples: a list that is legal, and for each way to be wrong one that is not.
-use Rattle.std.proofs.Common.{ℕ, List, [], ◌∷◌, Option, None, Some, pos, negsuc, false}
-use Rattle.std.proofs.Common.{ap, refl, arith}
+use Rattle.std.proofs.Common.{◌∷◌, [], arith, false, List, negsuc, None, pos}
+use Rattle.std.proofs.Common.{Some, ℕ}
 use Rattle.psci_world_spec.specs.psci_ctl_spec.declared.call.CtlCall.TheVariants as asks
 use Rattle.psci_world_spec.specs.psci_ctl_spec.declared.delivery.Delivery.TheVariants as deliveries
 use Rattle.psci_world_spec.specs.psci_ctl_spec.declared.kick.Kick.TheVariants as kicks
@@ -18,12 +18,9 @@ use Rattle.psci_world_spec.specs.psci_messages.declared.start.Start.{Start}
 use Rattle.psci_world_spec.specs.psci_messages.declared.taken.Taken.TheVariants as takens
 use Rattle.psci_world_spec.specs.psci_messages.Message.{AckValue, MessageValue}
 use Rattle.psci_world_spec.proofs.Scripts.{board, computing}
-use Rattle.psci_audit.specs.Entries.{Entry, Asked, Controlled, acks, controller_history}
-use Rattle.psci_audit.specs.Entries.{firmware_history, place, sent}
-use Rattle.psci_audit.specs.Legal.{IsLegal, MayFollow}
+use Rattle.psci_audit.specs.Entries.{acks, Asked, Controlled, controller_history, Entry}
+use Rattle.psci_audit.specs.Entries.{firmware_history, IsLegal, MayFollow, place, sent}
 use Rattle.psci_audit.specs.Told.{asked, controlled}
-use Rattle.std.proofs.lemmas.Bool.{eqb-false}
-use Rattle.psci_world_spec.specs.psci_ctl_spec.declared.reply.CtlReply.{CtlReply}
 
 -- what an example unfolds to judge a list that is written out
 unfoldable pub judging : Unit {0}
@@ -101,41 +98,23 @@ resets c number = Controlled (controlled (asks.Reset (record { number = c }))
 
 -- Legal lists ----------------------------------------------------------------------------------
 
-nothing : IsLegal board []
-nothing = tt
-
-one_entry : IsLegal board (boots ∷ [])
+legal_lists :
+    -- nothing: so it is
+    IsLegal board []
+    -- one_entry: so it is
+    × IsLegal board (boots ∷ [])
+    -- asked_on: core 3 is asked on; the Start is delivered and acknowledged; core 3 enters at its
+    -- entry point
+    × IsLegal board (takes_3 ∷ delivers_3 ∷ on_3 ∷ boots ∷ [])
+    -- entered_on: so it is
+    × IsLegal board (enters 3 (start 1 causes.On) 0x40001000 7 ∷ delivers_3 ∷ on_3 ∷ boots ∷ [])
+    -- woken: a stopped core is woken by its last start's number, which is 0 before any; one that
+    -- runs is not woken, whatever number is named; any core is reset
+    × IsLegal board (not_woken 0 7 ∷ wakes 1 0 1 ∷ boots ∷ [])
+    -- was_reset: so it is
+    × IsLegal board (resets 0 2 ∷ boots ∷ [])
 unfolding judging
-one_entry = ((omega arith, refl, refl, tt, refl), tt)
-
--- core 3 is asked on; the Start is delivered and acknowledged; core 3 enters at its entry point
-asked_on : IsLegal board (takes_3 ∷ delivers_3 ∷ on_3 ∷ boots ∷ [])
-unfolding judging
-asked_on = (
-  (refl, (0, refl), refl),
-  (((0, refl), refl), ((omega arith, refl, tt, refl), ((omega arith, refl, refl, tt, refl), tt))),
-)
-
-entered_on : IsLegal board
-    (enters 3 (start 1 causes.On) 0x40001000 7 ∷ delivers_3 ∷ on_3 ∷ boots ∷ [])
-unfolding judging
-entered_on = (
-  (omega arith, refl, refl, tt, refl),
-  (((0, refl), refl), ((omega arith, refl, tt, refl), ((omega arith, refl, refl, tt, refl), tt))),
-)
-
--- a stopped core is woken by its last start's number, which is 0 before any; one that runs is not
--- woken, whatever number is named; any core is reset
-woken : IsLegal board (not_woken 0 7 ∷ wakes 1 0 1 ∷ boots ∷ [])
-unfolding judging
-woken = (
-  (omega arith, refl),
-  ((omega arith, (refl, refl)), ((omega arith, refl, refl, tt, refl), tt)),
-)
-
-was_reset : IsLegal board (resets 0 2 ∷ boots ∷ [])
-unfolding judging
-was_reset = ((omega arith, refl), ((omega arith, refl, refl, tt, refl), tt))
+legal_lists = search arith
 
 -- the address or the value of what a core does next
 abbrev pub act_number : Act → ℕ
@@ -148,39 +127,19 @@ abbrev pub number_in : FwReply → ℕ
 number_in (replies.Out o) = act_number o.act
 number_in reply = 0
 
--- the number of a start
-abbrev pub start_number : Option Start → ℕ
-start_number None = 0
-start_number (Some s) = s.number
-
--- how much of a message is applied, or 9; the number of a start, or 9
-abbrev pub applied_in : CtlReply → ℕ
-applied_in (replied.Delivery (deliveries.Applied a)) = a.applied
-applied_in reply = 9
-
-abbrev pub started_in : CtlReply → ℕ
-started_in (replied.Kick (kicks.Started s)) = s.number
-started_in reply = 9
-
 -- Lists that are not ---------------------------------------------------------------------------
 
--- another reply
-wrong_reply : IsLegal board (enters 0 (start 1 causes.Boot) 0x40000004 0 ∷ []) → ⊥
+illegal_entries :
+    -- wrong_reply: another reply
+    (IsLegal board (enters 0 (start 1 causes.Boot) 0x40000004 0 ∷ []) → ⊥)
+    -- wrong_value: so it is
+    × (IsLegal board (version 0 1 ∷ boots ∷ []) → ⊥)
+    -- not_running: so it is
+    × (IsLegal board (version 1 65537 ∷ boots ∷ []) → ⊥)
+    -- another_start: an entry by another start than the last one
+    × (IsLegal board (enters 0 (start 2 causes.Reset) 0x40000000 0 ∷ []) → ⊥)
 unfolding judging
-wrong_reply is = eqb-false 0x40000004 0x40000000 refl (ap number_in is.0.4)
-
-wrong_value : IsLegal board (version 0 1 ∷ boots ∷ []) → ⊥
-unfolding judging
-wrong_value is = eqb-false 1 65537 refl (ap number_in is.0.3)
-
-not_running : IsLegal board (version 1 65537 ∷ boots ∷ []) → ⊥
-unfolding judging
-not_running is = let e = is.0.1 in cc
-
--- an entry by another start than the last one
-another_start : IsLegal board (enters 0 (start 2 causes.Reset) 0x40000000 0 ∷ []) → ⊥
-unfolding judging
-another_start is = eqb-false 1 2 refl (ap start_number is.0.2)
+illegal_entries = search arith
 
 -- what is not legal either
 abbrev Illegal : List Entry → Type 0
@@ -206,14 +165,4 @@ illegal_lists :
     -- a core that the board does not have
     × Illegal (resets 4 1 ∷ [])
 unfolding judging
-illegal_lists = (
-  λ is. let e = is.0.1 in cc,
-  λ is. let e = is.0.1 in cc,
-  λ is. let e = is.0.1 in cc,
-  λ is. is.0.3,
-  λ is. let e = is.0.0.1 in cc,
-  λ is. let e = is.0.1.1 in cc,
-  λ is. let e = is.0.1.0 in cc,
-  λ is. let e = is.0.1 in cc,
-  λ is. let e = is.0.0 in omega (arith, e),
-)
+illegal_lists = search arith

@@ -1,5 +1,5 @@
 -- Worked examples: books that are merged, tickets that fit and that do not, and what is answered.
-use Rattle.std.proofs.Common.{◌≡◌, ℕ, [], ◌∷◌, true, false, inl, inr, refl, arith}
+use Rattle.std.proofs.Common.{◌∷◌, ◌≡◌, [], arith, false, inl, inr, List, refl, true, ℕ}
 use Rattle.psci_world_spec.specs.psci_ctl_spec.declared.call.CtlCall.TheVariants as asks
 use Rattle.psci_world_spec.specs.psci_ctl_spec.declared.kick.Kick.TheVariants as kicks
 use Rattle.psci_world_spec.specs.psci_ctl_spec.declared.reply.CtlReply.TheVariants as replied
@@ -8,17 +8,14 @@ use Rattle.psci_world_spec.specs.psci_fw_spec.declared.fault.FwFault.TheVariants
 use Rattle.psci_world_spec.specs.psci_fw_spec.declared.reply.FwReply.TheVariants as replies
 use Rattle.psci_world_spec.specs.psci_messages.declared.kind.Kind.TheVariants as kinds
 use Rattle.psci_world_spec.specs.psci_messages.declared.start.Cause.TheVariants as causes
-use Rattle.psci_shared.specs.Entries.{FwEntry}
-use Rattle.psci_shared.specs.CtlEntries.{CtlEntry}
-use Rattle.psci_audit.specs.Entries.{Asked}
+use Rattle.psci_shared.specs.Places.{CtlEntry, FwEntry}
+use Rattle.psci_audit.specs.Entries.{Asked, Entry}
 use Rattle.psci_audit.specs.Told.{asked}
 use Rattle.psci_audit.proofs.ListRows.{start}
-use Rattle.psci_audit.specs.Merged.{IsIn, TicketsFit, asked_by, controlled_by, is_asked_first}
-use Rattle.psci_audit.specs.Merged.{merged}
+use Rattle.psci_audit.specs.Merged.{asked_by, controlled_by, is_asked_first, merged}
+use Rattle.psci_audit.specs.Merged.{TicketsFit}
 use Rattle.psci_world_spec.proofs.Tables.{◌⇒◌, Gives}
 use Rattle.psci_world_spec.specs.psci_fw_spec.declared.call.FwCall.{FwCall}
-use Rattle.std.proofs.Common.{List}
-use Rattle.psci_audit.specs.Entries.{Entry}
 
 -- an entry of the firmware's book under a ticket
 abbrev f : ℕ → FwEntry
@@ -84,24 +81,11 @@ next_by_ticket = refl
 
 -- Tickets --------------------------------------------------------------------------------------
 
-fall : TicketsFit (f 2 ∷ f 1 ∷ []) [] → ⊥
-fall fit = let less = fit.firmware.1.0 in omega (arith, less)
-
-equal : TicketsFit [] (c 2 ∷ c 2 ∷ []) → ⊥
-equal fit = let less = fit.controller.1.0 in omega (arith, less)
-
 in_both : TicketsFit (f 1 ∷ f 4 ∷ []) (c 2 ∷ c 4 ∷ []) → ⊥
 in_both fit = fit.apart 4 (inr (inl refl)) (inr (inl refl))
 
-rising : TicketsFit (f 1 ∷ f 4 ∷ []) (c 2 ∷ [])
-rising = record {
-  firmware = (tt, (omega arith, tt));
-  controller = (tt, tt);
-  apart = apart;
-}
-  where
-    apart : (ticket : ℕ) → IsIn ticket (1 ∷ 4 ∷ []) → IsIn ticket (2 ∷ []) → ⊥
-    apart t (inl e) (inl d) = omega (arith, e, d)
-    apart t (inr (inl e)) (inl d) = omega (arith, e, d)
-    apart t (inr (inr at)) (inl d) = absurd at
-    apart t at (inr other) = absurd other
+fit_or_not :
+    ¬ (TicketsFit (f 2 ∷ f 1 ∷ []) [])
+    × ¬ (TicketsFit [] (c 2 ∷ c 2 ∷ []))
+    × TicketsFit (f 1 ∷ f 4 ∷ []) (c 2 ∷ [])
+fit_or_not = search arith

@@ -1,7 +1,6 @@
 -- Worked examples: lists in which another core than the boot core calls, with later starts, later
 -- messages and a second life; and for each way to be wrong there one that is not legal.
-use Rattle.std.proofs.Common.{◌≡◌, ℕ, List, [], ◌∷◌, Some, true, false}
-use Rattle.std.proofs.Common.{ap, refl, arith}
+use Rattle.std.proofs.Common.{◌∷◌, [], arith, false, List, Some, true, ℕ}
 use Rattle.psci_world_spec.specs.psci_messages.declared.part.Part.{Part}
 use Rattle.psci_world_spec.specs.psci_ctl_spec.declared.call.CtlCall.TheVariants as asks
 use Rattle.psci_world_spec.specs.psci_ctl_spec.declared.delivery.Delivery.TheVariants as deliveries
@@ -15,13 +14,11 @@ use Rattle.psci_world_spec.specs.psci_messages.declared.start.Cause.TheVariants 
 use Rattle.psci_world_spec.specs.psci_messages.declared.taken.Taken.TheVariants as takens
 use Rattle.psci_world_spec.specs.psci_messages.Message.{AckValue, MessageValue}
 use Rattle.psci_world_spec.proofs.Scripts.{board, part}
-use Rattle.psci_audit.specs.Entries.{Entry, Asked, Controlled}
-use Rattle.psci_audit.specs.Legal.{IsLegal}
+use Rattle.psci_audit.specs.Entries.{Asked, Controlled, Entry, IsLegal}
 use Rattle.psci_audit.specs.Told.{asked, controlled}
-use Rattle.psci_audit.proofs.ListRows.{ack_3, boots, delivers_3, enters, judging, on_3, resets}
-use Rattle.psci_audit.proofs.ListRows.{start, start_3, takes_3, version, wakes}
-use Rattle.std.proofs.lemmas.Bool.{eqb-false}
-use Rattle.psci_audit.proofs.ListRows.{applied_in, started_in}
+use Rattle.psci_audit.proofs.ListRows.{ack_3, boots, delivers_3, enters, judging}
+use Rattle.psci_audit.proofs.ListRows.{on_3, resets, start, start_3, takes_3}
+use Rattle.psci_audit.proofs.ListRows.{version, wakes}
 
 -- a core calls the function of this word, stops, and sends a message
 abbrev stops : ℕ → ℕ → MessageValue → Entry
@@ -62,35 +59,9 @@ Illegal entries = IsLegal board entries → ⊥
 abbrev on : List Entry
 on = enters 3 (start 1 causes.On) 0x40001000 7 ∷ delivers_3 ∷ on_3 ∷ boots ∷ []
 
-on_is_legal : IsLegal board on
-unfolding judging
-on_is_legal = (
-  (omega arith, refl, refl, tt, refl),
-  (((0, refl), refl), ((omega arith, refl, tt, refl), ((omega arith, refl, refl, tt, refl), tt))),
-)
-
 -- it calls CPU_OFF
 abbrev down_3 : MessageValue
 down_3 = message kinds.Down 3 (part 0 3 1 ∷ part 1 3 1 ∷ [])
-
-goes_off : IsLegal board (stops 3 0x84000002 down_3 ∷ on)
-unfolding judging
-goes_off = ((omega arith, refl, tt, refl), on_is_legal)
-
--- that is carried out; and PSCI_VERSION comes too late
-gone : IsLegal board (takes (ack kinds.Down 3 2) ∷ delivers down_3 (ack kinds.Down 3 2)
-    ∷ stops 3 0x84000002 down_3 ∷ on)
-unfolding judging
-gone = ((refl, (1, refl), refl), (((1, refl), refl), ((omega arith, refl, tt, refl), on_is_legal)))
-
-calls_late : IsLegal board (version 3 65537 ∷ stops 3 0x84000002 down_3 ∷ on) → ⊥
-unfolding judging
-calls_late is = let e = is.0.1 in cc
-
--- the boot core still runs
-others_run : IsLegal board (version 0 65537 ∷ stops 3 0x84000002 down_3 ∷ on)
-unfolding judging
-others_run = ((omega arith, refl, tt, refl), ((omega arith, refl, tt, refl), on_is_legal))
 
 -- Acknowledgements -----------------------------------------------------------------------------
 
@@ -98,39 +69,17 @@ others_run = ((omega arith, refl, tt, refl), ((omega arith, refl, tt, refl), on_
 abbrev takes_old : Entry
 takes_old = Asked (asked 0 (calls.Take ack_3) (replies.Taken takens.Old))
 
-taken_late : IsLegal board (takes_old ∷ on)
-unfolding judging
-taken_late = ((refl, (0, refl), refl), on_is_legal)
-
 illegal_acknowledgements :
     Illegal (takes_old ∷ delivers_3 ∷ on_3 ∷ boots ∷ [])
     -- an acknowledgement stands under no core but core 0
     × Illegal (Asked (asked 3 (calls.Take ack_3) (replies.Taken takens.Used)) ∷ delivers_3 ∷ on_3
     ∷ boots ∷ [])
 unfolding judging
-illegal_acknowledgements = (
-  λ is. let e : replies.Taken takens.Old ≡ replies.Taken takens.Used = is.0.2 in cc,
-  λ is. eqb-false 3 0 refl is.0.0,
-)
+illegal_acknowledgements = search arith
 
 -- the Start comes twice: the second time it is stale
 abbrev stale_3 : AckValue
 stale_3 = record ack_3 { applied = 0; stale = true }
-
-delivered_again : IsLegal board
-    (delivers start_3 stale_3 ∷ takes_3 ∷ delivers_3 ∷ on_3 ∷ boots ∷ [])
-unfolding judging
-delivered_again = (
-  ((0, refl), refl),
-  (
-    (refl, (0, refl), refl),
-    (((0, refl), refl), ((omega arith, refl, tt, refl), ((omega arith, refl, refl, tt, refl), tt))),
-  ),
-)
-
-another_ack : IsLegal board (delivers start_3 stale_3 ∷ on_3 ∷ boots ∷ []) → ⊥
-unfolding judging
-another_ack is = eqb-false 0 1 refl (ap applied_in is.0.1)
 
 -- Starts ---------------------------------------------------------------------------------------
 
@@ -142,36 +91,24 @@ abbrev parks : Entry
 parks = Asked (asked 0 (calls.Enter (start 2 causes.Reset))
     (replies.Out (record { act = acts.Stop; message = Some down_0 })))
 
-reset_is_legal : IsLegal board (resets 0 2 ∷ boots ∷ [])
+illegal_later :
+    -- calls_late: so it is
+    (IsLegal board (version 3 65537 ∷ stops 3 0x84000002 down_3 ∷ on) → ⊥)
+    -- another_ack: so it is
+    × (IsLegal board (delivers start_3 stale_3 ∷ on_3 ∷ boots ∷ []) → ⊥)
+    -- woken_by_the_first: so it is
+    × (IsLegal board (wakes 0 1 3 ∷ parks ∷ resets 0 2 ∷ boots ∷ []) → ⊥)
+    -- reset_by_another: so it is
+    × (IsLegal board (resets 0 3 ∷ boots ∷ []) → ⊥)
 unfolding judging
-reset_is_legal = ((omega arith, refl), ((omega arith, refl, refl, tt, refl), tt))
-
-parked : IsLegal board (parks ∷ resets 0 2 ∷ boots ∷ [])
-unfolding judging
-parked = ((omega arith, refl, refl, tt, refl), reset_is_legal)
-
--- then it is woken by that start's number, and not by the first one's
-woken_again : IsLegal board (wakes 0 2 3 ∷ parks ∷ resets 0 2 ∷ boots ∷ [])
-unfolding judging
-woken_again = ((omega arith, (refl, refl)), ((omega arith, refl, refl, tt, refl), reset_is_legal))
-
-woken_by_the_first : IsLegal board (wakes 0 1 3 ∷ parks ∷ resets 0 2 ∷ boots ∷ []) → ⊥
-unfolding judging
-woken_by_the_first is = eqb-false 1 2 refl is.0.1.0
-
-reset_by_another : IsLegal board (resets 0 3 ∷ boots ∷ []) → ⊥
-unfolding judging
-reset_by_another is = eqb-false 3 2 refl (ap started_in is.0.1)
+illegal_later = search arith
 
 illegal_starts :
     Illegal (wakes 1 0 2 ∷ boots ∷ [])
     -- a core that was started and has not entered is woken
     × Illegal (wakes 0 1 2 ∷ [])
 unfolding judging
-illegal_starts = (
-  λ is. eqb-false 2 1 refl (ap started_in is.0.1.1),
-  λ is. let e = is.0.1 in cc,
-)
+illegal_starts = search arith
 
 -- No core of the board -------------------------------------------------------------------------
 
@@ -180,32 +117,33 @@ no_core_of_the_board :
     × Illegal (version 4 65537 ∷ boots ∷ [])
     × Illegal (enters 4 (start 1 causes.Boot) 0x40000000 0 ∷ [])
 unfolding judging
-no_core_of_the_board = (
-  λ is. let e = is.0.0 in omega (arith, e),
-  λ is. let e = is.0.0 in omega (arith, e),
-  λ is. let e = is.0.0 in omega (arith, e),
-)
+no_core_of_the_board = search arith
 
 -- The next life --------------------------------------------------------------------------------
 
 abbrev reset_0 : MessageValue
 reset_0 = message kinds.Reset 0 []
 
--- the Start of the first life is ignored; the boot core enters by the first start of the second
-next_life : IsLegal board (enters 0 (record (start 1 causes.Boot) { life = 2 }) 0x40000000 0
-    ∷ Controlled (controlled (asks.Deliver start_3) (replied.Delivery deliveries.Ignored))
-    ∷ delivers reset_0 (ack kinds.Reset 0 1) ∷ stops 0 0x84000009 reset_0 ∷ on_3 ∷ boots ∷ [])
+legal_later :
+    -- goes_off: so it is
+    IsLegal board (stops 3 0x84000002 down_3 ∷ on)
+    -- gone: that is carried out; and PSCI_VERSION comes too late
+    × IsLegal board (takes (ack kinds.Down 3 2) ∷ delivers down_3 (ack kinds.Down 3 2) ∷ stops 3
+    0x84000002 down_3 ∷ on)
+    -- others_run: the boot core still runs
+    × IsLegal board (version 0 65537 ∷ stops 3 0x84000002 down_3 ∷ on)
+    -- taken_late: so it is
+    × IsLegal board (takes_old ∷ on)
+    -- delivered_again: so it is
+    × IsLegal board (delivers start_3 stale_3 ∷ takes_3 ∷ delivers_3 ∷ on_3 ∷ boots ∷ [])
+    -- parked: so it is
+    × IsLegal board (parks ∷ resets 0 2 ∷ boots ∷ [])
+    -- woken_again: then it is woken by that start's number, and not by the first one's
+    × IsLegal board (wakes 0 2 3 ∷ parks ∷ resets 0 2 ∷ boots ∷ [])
+    -- next_life: the Start of the first life is ignored; the boot core enters by the first start of
+    -- the second
+    × IsLegal board (enters 0 (record (start 1 causes.Boot) { life = 2 }) 0x40000000 0 ∷ Controlled
+    (controlled (asks.Deliver start_3) (replied.Delivery deliveries.Ignored)) ∷ delivers reset_0
+    (ack kinds.Reset 0 1) ∷ stops 0 0x84000009 reset_0 ∷ on_3 ∷ boots ∷ [])
 unfolding judging
-next_life = (
-  (omega arith, refl, refl, tt, refl),
-  (
-    ((0, refl), refl),
-    (
-      ((1, refl), refl),
-      (
-        (omega arith, refl, tt, refl),
-        ((omega arith, refl, tt, refl), ((omega arith, refl, refl, tt, refl), tt)),
-      ),
-    ),
-  ),
-)
+legal_later = search arith

@@ -1,7 +1,7 @@
 -- Worked examples: which replies are said of an event, and which are not; and whether an entry may
 -- follow those that some records tell.
-use Rattle.std.proofs.Common.{◌≡◌, ℕ, [], ◌∷◌, Option, None, Some, true, false, pos}
-use Rattle.std.proofs.Common.{ap, refl, arith}
+use Rattle.std.proofs.Common.{◌∷◌, [], arith, false, None, Option, pos, refl, Some}
+use Rattle.std.proofs.Common.{true}
 use Rattle.psci_world_spec.specs.psci_ctl_spec.declared.delivery.Delivery.TheVariants as deliveries
 use Rattle.psci_world_spec.specs.psci_ctl_spec.declared.kick.Kick.TheVariants as kicks
 use Rattle.psci_world_spec.specs.psci_ctl_spec.declared.reply.CtlReply.TheVariants as replied
@@ -13,15 +13,14 @@ use Rattle.psci_world_spec.specs.psci_messages.declared.taken.Taken.TheVariants 
 use Rattle.psci_world_spec.specs.psci_messages.Message.{MessageValue}
 use Rattle.psci_world_spec.specs.declared.event.Event.TheVariants.{Enter}
 use Rattle.psci_world_spec.specs.declared.said.Said.{Said}
-use Rattle.psci_world_spec.specs.declared.said.Said.TheVariants.{Absent, Acked, Fw, Ignored, Kick}
-use Rattle.psci_world_spec.specs.declared.said.Said.TheVariants.{Taken}
+use Rattle.psci_world_spec.specs.declared.said.Said.TheVariants.{Absent, Acked, Fw, Ignored}
+use Rattle.psci_world_spec.specs.declared.said.Said.TheVariants.{Kick, Taken}
 use Rattle.psci_world_spec.proofs.Scripts.{board}
-use Rattle.psci_world.specs.Seen.{WorldValue}
-use Rattle.psci_audit.proofs.ListRows.{ack_3, boots, judging, start, start_3, version}
-use Rattle.psci_audit.specs.Following.{Follows, IsStep}
-use Rattle.psci_audit.specs.Replies.{SaysDelivery, SaysKick, SaysOutcome, SaysTaken}
-use Rattle.std.proofs.lemmas.Bool.{eqb-false}
-use Rattle.psci_audit.proofs.ListRows.{applied_in, started_in}
+use Rattle.psci_world.specs.Settles.{WorldValue}
+use Rattle.psci_audit.proofs.ListRows.{ack_3, boots, judging, start, start_3}
+use Rattle.psci_audit.proofs.ListRows.{version}
+use Rattle.psci_audit.specs.Told.{Follows, IsStep, SaysDelivery, SaysKick, SaysOutcome}
+use Rattle.psci_audit.specs.Told.{SaysTaken}
 
 -- Outcomes -------------------------------------------------------------------------------------
 
@@ -38,63 +37,43 @@ replies_said : SaysOutcome on_3 (returns (Some start_3))
     × SaysDelivery (Acked 4 ack_3) (replied.Delivery (deliveries.Applied ack_3))
     × SaysDelivery Ignored (replied.Delivery deliveries.Ignored)
     × SaysKick (Kick (start 2 causes.Reset)) (replied.Kick (kicks.Started (start 2 causes.Reset)))
-replies_said = (refl, refl, refl, refl, refl)
-
--- the number of the start that a message names, or 9
-abbrev number_in : FwReply → ℕ
-number_in (replies.Out o) = elim o.message [ None ↦ 9 | Some m ↦ m.number ]
-number_in reply = 8
+replies_said = search arith
 
 other_outcomes :
     ¬ (SaysOutcome on_3 (returns None))
     × ¬ (SaysOutcome on_3 (returns (Some (record start_3 { number = 1 }))))
-other_outcomes = (
-  λ says. eqb-false 9 0 refl (ap number_in says),
-  λ says. eqb-false 1 0 refl (ap number_in says),
-)
+other_outcomes = search arith
 
 -- nothing is said of what does not happen
 nothing_is_said : ¬ (SaysOutcome Ignored (returns None))
     × ¬ (SaysTaken Absent (replies.Taken takens.Old))
     × ¬ (SaysDelivery Absent (replied.Delivery deliveries.Ignored))
     × ¬ (SaysKick Absent (replied.Kick kicks.Ignored))
-nothing_is_said = (λ says. says, λ says. says, λ says. says, λ says. says)
+nothing_is_said = search arith
 
 -- Acknowledgements and messages ----------------------------------------------------------------
 
-taken_otherwise : SaysTaken (Taken takens.Old) (replies.Taken takens.Used) → ⊥
-taken_otherwise says =
-    let e : replies.Taken takens.Used ≡ replies.Taken takens.Old = says in cc
-
-delivered_otherwise : SaysDelivery (Acked 4 ack_3)
-    (replied.Delivery (deliveries.Applied (record ack_3 { applied = 0; stale = true }))) → ⊥
-delivered_otherwise says = eqb-false 0 1 refl (ap applied_in says)
-
-ignored_otherwise : SaysDelivery Ignored (replied.Delivery (deliveries.Applied ack_3)) → ⊥
-ignored_otherwise says = eqb-false 1 9 refl (ap applied_in says)
+refused_otherwise :
+    ¬ (SaysTaken (Taken takens.Old) (replies.Taken takens.Used))
+    × ¬ (SaysDelivery (Acked 4 ack_3) (replied.Delivery (deliveries.Applied (record ack_3 {
+      applied
+          = 0;
+      stale = true;
+    }))))
+    × ¬ (SaysDelivery Ignored (replied.Delivery (deliveries.Applied ack_3)))
+refused_otherwise = search arith
 
 -- Starts ---------------------------------------------------------------------------------------
 
 started_otherwise :
     ¬ (SaysKick (Kick (start 2 causes.Reset)) (replied.Kick (kicks.Started (start 3 causes.Reset))))
     × ¬ (SaysKick Ignored (replied.Kick (kicks.Started (start 3 causes.Reset))))
-started_otherwise = (
-  λ says. eqb-false 3 2 refl (ap started_in says),
-  λ says. eqb-false 3 9 refl (ap started_in says),
-)
+started_otherwise = search arith
 
 -- One entry more -------------------------------------------------------------------------------
 
 abbrev new : WorldValue
 new = record { board = board; past = [] }
-
--- the boot core enters, and may: it is told of a record, and not refused
-without_a_record : Follows new new [] boots true → ⊥
-without_a_record follows = follows.1
-
-not_refused : Follows new new [] boots false → ⊥
-unfolding judging
-not_refused refused = refused (omega arith, refl, refl, tt, refl)
 
 -- the boot core has entered, as one record tells
 abbrev entered : WorldValue
@@ -103,20 +82,23 @@ entered = record {
   past = record { event = Enter 0; said = Fw (acts.Enter 0x40000000 0) None } ∷ [];
 }
 
-enters_first : Follows new entered [] boots true
+follow_or_not :
+    -- the boot core enters, and may: it is told of a record, and not refused
+    ¬ (Follows new new [] boots true)
+    × ¬ (Follows new new [] boots false)
+    × Follows new entered [] boots true
 unfolding judging
-enters_first = ((omega arith, refl, refl, tt, refl), ((start 1 causes.Boot, refl, refl), tt))
+follow_or_not = search arith
 
 -- a core calls that has not entered, whatever is told of it
 calls_first : (told : WorldValue) → Follows new told [] (version 0 65537) true → ⊥
 unfolding judging
-calls_first told follows = let e = follows.0.1 in cc
+calls_first = search arith
 
 -- no record tells no entry, and nothing else
 first_step : IsStep new entered boots true
 unfolding judging
-first_step [] told = ((omega arith, refl, refl, tt, refl), ((start 1 causes.Boot, refl, refl), tt))
-first_step (e ∷ entries) told = absurd told
+first_step = search arith
 
 -- after the record of its entry the boot core does not enter again
 second_step : (told : WorldValue) → IsStep entered told boots true → ⊥

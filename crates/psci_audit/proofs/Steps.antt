@@ -1,45 +1,39 @@
 -- One entry more: what was said of the event that stands for it tells whether it may follow.
-use Rattle.std.proofs.Common.{◌≡◌, ℕ, ◌<◌, Bool, true, false, List, ◌∷◌, refl, ap, sym, ◌∙◌}
-use Rattle.std.proofs.Common.{subst, Some}
+use Rattle.std.proofs.Common.{◌<◌, ◌∙◌, ◌∷◌, ◌≡◌, ap, Bool, false, List, refl, Some, subst, sym}
+use Rattle.std.proofs.Common.{true, ℕ}
 use Rattle.std.specs.Prelude.{◌↔◌, IsTrue}
 use Rattle.psci_world_spec.specs.psci_abi.declared.registers.Regs.{Regs}
-use Rattle.psci_world_spec.specs.psci_board.declared.node.Core.{Core}
+use Rattle.psci_world_spec.specs.psci_board.declared.draft.Core.{Core}
 use Rattle.psci_world_spec.specs.psci_board.Board.{BoardValue, cores}
 use Rattle.psci_world_spec.specs.psci_ctl_spec.declared.call.CtlCall.TheVariants as asks
 use Rattle.psci_world_spec.specs.psci_ctl_spec.declared.kick.Kick.TheVariants as kicks
 use Rattle.psci_world_spec.specs.psci_ctl_spec.declared.reply.CtlReply.{CtlReply}
 use Rattle.psci_world_spec.specs.psci_ctl_spec.declared.reply.CtlReply.TheVariants as replied
-use Rattle.psci_world_spec.specs.psci_ctl_spec.Exchange.{CtlExchange}
+use Rattle.psci_world_spec.specs.psci_ctl_spec.Values.{CtlExchange}
 use Rattle.psci_world_spec.specs.psci_ctl_spec.Replies.{last_start}
 use Rattle.psci_world_spec.specs.psci_fw_spec.declared.call.FwCall.TheVariants as calls
 use Rattle.psci_world_spec.specs.psci_fw_spec.declared.reply.FwReply.{FwReply}
-use Rattle.psci_world_spec.specs.psci_fw_spec.Exchange.{FwExchange}
+use Rattle.psci_world_spec.specs.psci_fw_spec.Effects.{FwExchange}
 use Rattle.psci_world_spec.specs.psci_messages.declared.start.Start.{Start}
 use Rattle.psci_world_spec.specs.psci_messages.Message.{AckValue, MessageValue}
 use Rattle.psci_world_spec.specs.declared.event.Event.{Event}
-use Rattle.psci_world_spec.specs.declared.event.Event.TheVariants.{Call, Enter, Wake, Reset}
-use Rattle.psci_world_spec.specs.declared.event.Event.TheVariants.{Deliver, Take}
+use Rattle.psci_world_spec.specs.declared.event.Event.TheVariants.{Call, Deliver, Enter, Reset}
+use Rattle.psci_world_spec.specs.declared.event.Event.TheVariants.{Take, Wake}
 use Rattle.psci_world_spec.specs.declared.place.Place.{Place}
 use Rattle.psci_world_spec.specs.declared.place.Place.TheVariants.{Started, Running, Stopped}
 use Rattle.psci_world_spec.specs.declared.said.Record.{Record}
 use Rattle.psci_world_spec.specs.declared.said.Said.{Said}
-use Rattle.psci_world_spec.specs.declared.said.Said.TheVariants.{Fw, Kick, Acked, Ignored}
+use Rattle.psci_world_spec.specs.declared.said.Said.TheVariants.{Acked, Fw, Ignored, Kick}
 use Rattle.psci_world_spec.specs.declared.said.Said.TheVariants.{Taken as Took}
-use Rattle.psci_world_spec.specs.Histories.{acks, controller_values, sent}
-use Rattle.psci_world_spec.specs.Legal.{if_stopped, legal, legal_record}
-use Rattle.psci_world_spec.specs.Lists.{indexed}
-use Rattle.psci_world_spec.specs.Places.{place}
-use Rattle.psci_world.specs.Seen.{WorldValue}
-use Rattle.psci_audit.specs.Entries.{Entry, Asked, Controlled}
-use Rattle.psci_audit.specs.Legal.{MayBe, MayWake}
-use Rattle.psci_audit.specs.Told.{IsTold, Tells, asked, controlled}
-use Rattle.psci_audit.proofs.MayFollow.{call_next, deliver_next, enter_next, follows}
+use Rattle.psci_world_spec.specs.Legal.{acks, controller_values, if_stopped, indexed, legal}
+use Rattle.psci_world_spec.specs.Legal.{legal_record, place, sent}
+use Rattle.psci_world.specs.Settles.{WorldValue}
+use Rattle.psci_audit.specs.Entries.{Asked, Controlled, Entry, MayBe, MayWake}
+use Rattle.psci_audit.specs.Told.{asked, controlled, IsStep, IsTold, SaysDelivery, SaysKick}
+use Rattle.psci_audit.specs.Told.{SaysOutcome, SaysTaken, Tells}
+use Rattle.psci_audit.proofs.MayFollow.{call_next, deliver_next, enter_next, follows, may_follow}
 use Rattle.psci_audit.proofs.MayFollow.{reset_next, take_next, wake_next}
-use Rattle.psci_audit.proofs.Only.{may_follow}
-use Rattle.psci_audit.proofs.Reading.{at_core}
-use Rattle.psci_audit.proofs.Telling.{now_of}
-use Rattle.psci_audit.specs.Following.{IsStep}
-use Rattle.psci_audit.specs.Replies.{SaysDelivery, SaysKick, SaysOutcome, SaysTaken}
+use Rattle.psci_audit.proofs.Telling.{at_core, now_of}
 
 -- All entries ----------------------------------------------------------------------------------
 

@@ -1,32 +1,106 @@
 -- What a run and the list that it tells say is the same.
-use Rattle.std.proofs.Common.{◌≡◌, ℕ, List, [], ◌∷◌, ◌++◌, Option, refl, ap, sym, ◌∙◌, subst}
-use Rattle.std.specs.Prelude.{unwrap_or}
-use Rattle.psci_world_spec.specs.psci_board.Board.{BoardValue}
-use Rattle.psci_world_spec.specs.psci_ctl_spec.Exchange.{CtlExchange}
-use Rattle.psci_world_spec.specs.psci_ctl_spec.History as controls
-use Rattle.psci_world_spec.specs.psci_fw_spec.Exchange.{FwExchange}
-use Rattle.psci_world_spec.specs.psci_fw_spec.History as remembers
-use Rattle.psci_world_spec.specs.psci_fw_spec.Said.{listed}
-use Rattle.psci_world_spec.specs.psci_messages.declared.start.Start.{Start}
-use Rattle.psci_world_spec.specs.psci_messages.Message.{AckValue, MessageValue}
+use Rattle.std.specs.Prelude.{nat_lt, unwrap_or}
+use Rattle.std.proofs.Common.{◌++◌, ◌<◌, ◌∙◌, ◌∷◌, ◌≡◌, [], ap, Bool, cond, false, List, None}
+use Rattle.std.proofs.Common.{Option, option_map, refl, Some, subst, sym, true, ℕ}
+use Rattle.std.proofs.lemmas.Bool.{lt-ltb, ltb-true}
+use Rattle.psci_world_spec.specs.Legal as told
+use Rattle.psci_world_spec.specs.Legal.{ack_in, call, control, delivered, entered, on_board}
+use Rattle.psci_world_spec.specs.Legal.{outcome_in, place_controlled, place_said, said_by}
+use Rattle.psci_world_spec.specs.Legal.{said_of, sent_as, sent_in, took}
 use Rattle.psci_world_spec.specs.declared.event.Event.{Event}
-use Rattle.psci_world_spec.specs.declared.event.Event.TheVariants.{Call, Enter, Wake, Reset}
-use Rattle.psci_world_spec.specs.declared.event.Event.TheVariants.{Deliver, Take}
+use Rattle.psci_world_spec.specs.declared.event.Event.TheVariants.{Call, Deliver, Enter, Reset}
+use Rattle.psci_world_spec.specs.declared.event.Event.TheVariants.{Take, Wake}
 use Rattle.psci_world_spec.specs.declared.place.Place.{Place}
 use Rattle.psci_world_spec.specs.declared.said.Record.{Record}
 use Rattle.psci_world_spec.specs.declared.said.Said.{Said}
-use Rattle.psci_world_spec.specs.declared.said.Said.TheVariants.{Fw, Kick, Acked, Ignored}
-use Rattle.psci_world_spec.specs.declared.said.Said.TheVariants.{Taken as Took}
-use Rattle.psci_world_spec.specs.Histories as told
-use Rattle.psci_world_spec.specs.Histories.{call, control, delivered, entered, outcome_in, took}
-use Rattle.psci_world_spec.specs.Histories.{ack_in, sent_in}
-use Rattle.psci_world_spec.specs.Places as places
-use Rattle.psci_world_spec.specs.Places.{place_controlled, place_said}
-use Rattle.psci_audit.specs.Entries.{Entry, Asked, Controlled, acks, asked_in, controlled_in}
-use Rattle.psci_audit.specs.Entries.{controller_history, firmware_history, made_by, place}
-use Rattle.psci_audit.specs.Entries.{place_by, sent, sent_by}
-use Rattle.psci_audit.specs.Legal.{Now, now}
+use Rattle.psci_world_spec.specs.declared.said.Said.TheVariants.{Absent, Acked, Fw, Ignored}
+use Rattle.psci_world_spec.specs.declared.said.Said.TheVariants.{Kick, Taken as Took}
+use Rattle.psci_world_spec.specs.declared.said.Sent.{Sent}
+use Rattle.psci_world_spec.specs.psci_board.Board.{BoardValue, cores}
+use Rattle.psci_world_spec.specs.psci_ctl_spec.Values.{CtlExchange}
+use Rattle.psci_world_spec.specs.psci_ctl_spec.History as controls
+use Rattle.psci_world_spec.specs.psci_ctl_spec.declared.delivery.Delivery.{Delivery}
+use Rattle.psci_world_spec.specs.psci_ctl_spec.declared.delivery.Delivery.TheVariants as deliveries
+use Rattle.psci_world_spec.specs.psci_ctl_spec.declared.kick.Kick.{Kick as KickReply}
+use Rattle.psci_world_spec.specs.psci_ctl_spec.declared.kick.Kick.TheVariants as kicks
+use Rattle.psci_world_spec.specs.psci_ctl_spec.declared.reply.CtlReply.TheVariants as replied
+use Rattle.psci_world_spec.specs.psci_fw_spec.Effects.{FwExchange, listed}
+use Rattle.psci_world_spec.specs.psci_fw_spec.History as remembers
+use Rattle.psci_world_spec.specs.psci_fw_spec.declared.fault.FwFault.TheVariants.{NoCore}
+use Rattle.psci_world_spec.specs.psci_fw_spec.declared.outcome.Act.{Act}
+use Rattle.psci_world_spec.specs.psci_fw_spec.declared.outcome.Outcome.{Outcome}
+use Rattle.psci_world_spec.specs.psci_fw_spec.declared.reply.FwReply.{FwReply}
+use Rattle.psci_world_spec.specs.psci_fw_spec.declared.reply.FwReply.TheVariants as replies
+use Rattle.psci_world_spec.specs.psci_messages.Message.{AckValue, MessageValue}
+use Rattle.psci_world_spec.specs.psci_messages.declared.start.Start.{Start}
+use Rattle.psci_audit.specs.Entries.{acks, Asked, asked_in, Controlled, controlled_in}
+use Rattle.psci_audit.specs.Entries.{controller_history, Entry, firmware_history, made_by, now}
+use Rattle.psci_audit.specs.Entries.{Now, place, place_by, sent, sent_by}
 use Rattle.psci_audit.specs.Told.{IsTold, Tells}
+
+-- A reply is read from what was said of it --------------------------------------------------------
+
+same_message : (n : ℕ) (m : Option MessageValue) → option_map (λ s. s.message) (sent_as n m) ≡ m
+same_message n None = refl
+same_message n (Some m) = refl
+
+pub same_outcome : (n : ℕ) (o : Outcome) → outcome_in o.act (sent_as n o.message) ≡ o
+same_outcome n o =
+    ap (λ (m : Option MessageValue). record { act = o.act; message = m }) (same_message n o.message)
+
+-- an outcome, as it was said
+abbrev reply_said : Said → FwReply
+reply_said (Fw act sends) = replies.Out (outcome_in act sends)
+reply_said said = replies.Fault NoCore
+
+pub is_out : (n : ℕ) (act : Act) (sends : Option Sent) (r : FwReply)
+    → Fw act sends ≡ said_of n r → r ≡ replies.Out (outcome_in act sends)
+is_out n act sends (replies.Out o) e =
+    ap replies.Out (sym (same_outcome n o)) ∙ ap reply_said (sym e)
+is_out n act sends (replies.Taken t) e = absurd (cc)
+is_out n act sends (replies.Fault f) e = absurd (cc)
+
+-- what became of a message, as it was said
+abbrev pub delivery_said : Said → Delivery
+delivery_said (Acked index ack) = deliveries.Applied ack
+delivery_said said = deliveries.Ignored
+
+same_delivery : (n : ℕ) (d : Delivery) → d ≡ delivery_said (said_by n (replied.Delivery d))
+same_delivery n (deliveries.Applied ack) = refl
+same_delivery n deliveries.Ignored = refl
+
+pub is_delivery : (n : ℕ) (said : Said) (d : Delivery) → said ≡ said_by n (replied.Delivery d)
+    → d ≡ delivery_said said
+is_delivery n said d e = same_delivery n d ∙ ap delivery_said (sym e)
+
+-- what became of a wake-up or a reset, as it was said
+abbrev pub kick_said : Said → KickReply
+kick_said (Kick start) = kicks.Started start
+kick_said said = kicks.Ignored
+
+same_kick : (n : ℕ) (k : KickReply) → k ≡ kick_said (said_by n (replied.Kick k))
+same_kick n (kicks.Started start) = refl
+same_kick n kicks.Ignored = refl
+
+pub is_kick : (n : ℕ) (said : Said) (k : KickReply) → said ≡ said_by n (replied.Kick k)
+    → k ≡ kick_said said
+is_kick n said k e = same_kick n k ∙ ap kick_said (sym e)
+
+-- what is said of an event of a core, other than that there is none, is said of a core of the board
+pub at_core : (b : BoardValue) (c : ℕ) (s said : Said) → said ≡ on_board b c s
+    → (said ≡ Absent → ⊥) → (c < cores b) × (said ≡ s)
+at_core b c s said e some = by_test (nat_lt c (cores b)) refl e
+  where
+    by_test : (t : Bool) → nat_lt c (cores b) ≡ t → said ≡ cond t s Absent
+        → (c < cores b) × (said ≡ s)
+    by_test true f g = (ltb-true c (cores b) f, g)
+    by_test false f g = absurd (some g)
+
+-- what is said of an event of a core of the board
+pub on_core : (b : BoardValue) (c : ℕ) (s : Said) → c < cores b → on_board b c s ≡ s
+on_core b c s on = ap (λ (t : Bool). cond t s Absent) (lt-ltb c (cores b) on)
+
+-- Telling -----------------------------------------------------------------------------------------
 
 -- One record -----------------------------------------------------------------------------------
 
@@ -68,14 +142,14 @@ pub record AreSame (b : BoardValue) (past : List Record) (entries : List Entry) 
   pub controller : told.controller_history b past ≡ controller_history entries
   pub sent : told.sent past ≡ sent entries
   pub acks : told.acks past ≡ acks entries
-  pub place : (c : ℕ) → places.place b past c ≡ place b entries c
+  pub place : (c : ℕ) → told.place b past c ≡ place b entries c
 
 both : {A : Type 0} (xs ys us vs : List A) → xs ≡ us → ys ≡ vs → xs ++ ys ≡ us ++ vs
 both xs ys us vs e f = ap (λ l. l ++ ys) e ∙ ap (λ l. us ++ l) f
 
 one_more : (b : BoardValue) (past : List Record) (entries : List Entry) (r : Record) (e : Entry)
     → Adds b past r.event r.said e → AreSame b past entries → AreSame b (r ∷ past) (e ∷ entries)
-unfolding told.firmware_history told.controller_history told.sent told.acks places.place
+unfolding told.firmware_history told.controller_history told.sent told.acks told.place
     firmware_history controller_history sent acks place
 one_more b past entries r e add same = record {
   firmware = both _ _ _ _ add.0 same.firmware;
@@ -85,16 +159,16 @@ one_more b past entries r e add same = record {
   place = λ c.
       ap (λ (p : Option Place). unwrap_or p (unwrap_or (place_controlled b c
       (control (told.controller_values b past) (told.sent past) r.event r.said))
-      (places.place b past c))) (add.4 c)
+      (told.place b past c))) (add.4 c)
       ∙ ap (λ (l : List CtlExchange). unwrap_or (place_by c e)
-      (unwrap_or (place_controlled b c l) (places.place b past c))) add.1
+      (unwrap_or (place_controlled b c l) (told.place b past c))) add.1
       ∙ ap (λ (p : Place). unwrap_or (place_by c e)
       (unwrap_or (place_controlled b c (controlled_in e)) p)) (same.place c);
 }
 
 pub are_same : (b : BoardValue) (past : List Record) (entries : List Entry)
     → Tells b past entries → AreSame b past entries
-unfolding told.firmware_history told.controller_history told.sent told.acks places.place
+unfolding told.firmware_history told.controller_history told.sent told.acks told.place
     firmware_history controller_history sent acks place
 are_same b [] [] is =
     record { firmware = refl; controller = refl; sent = refl; acks = refl; place = λ c. refl }
@@ -111,7 +185,7 @@ abbrev pub now_of : BoardValue → List Record → Now
 now_of b past = record {
   firmware = told.firmware_values b past;
   controller = told.controller_values b past;
-  place = places.place b past;
+  place = told.place b past;
   sent = told.sent past;
   acks = told.acks past;
 }

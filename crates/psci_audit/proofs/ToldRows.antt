@@ -1,31 +1,25 @@
 -- Worked examples: which lists the records of a run tell, and which they do not.
-use Rattle.std.proofs.Common.{◌≡◌, ℕ, [], ◌∷◌, None, Some, pos, true, ap, refl, arith}
-use Rattle.psci_world_spec.specs.psci_ctl_spec.declared.call.CtlCall.{CtlCall}
+use Rattle.std.proofs.Common.{◌∷◌, [], arith, None, pos, Some, true, ℕ}
 use Rattle.psci_world_spec.specs.psci_ctl_spec.declared.call.CtlCall.TheVariants as asks
 use Rattle.psci_world_spec.specs.psci_ctl_spec.declared.delivery.Delivery.TheVariants as deliveries
 use Rattle.psci_world_spec.specs.psci_ctl_spec.declared.reply.CtlReply.TheVariants as replied
-use Rattle.psci_world_spec.specs.psci_ctl_spec.Exchange.{CtlExchange}
-use Rattle.psci_world_spec.specs.psci_fw_spec.declared.call.FwCall.{FwCall}
 use Rattle.psci_world_spec.specs.psci_fw_spec.declared.call.FwCall.TheVariants as calls
 use Rattle.psci_world_spec.specs.psci_fw_spec.declared.outcome.Act.TheVariants as acts
 use Rattle.psci_world_spec.specs.psci_fw_spec.declared.reply.FwReply.TheVariants as replies
-use Rattle.psci_world_spec.specs.psci_fw_spec.Exchange.{FwExchange}
 use Rattle.psci_world_spec.specs.psci_messages.declared.start.Cause.TheVariants as causes
 use Rattle.psci_world_spec.specs.psci_messages.declared.taken.Taken.TheVariants as takens
 use Rattle.psci_world_spec.specs.psci_messages.Message.{AckValue}
-use Rattle.psci_world_spec.specs.declared.event.Event.TheVariants.{Call, Enter, Wake, Reset}
-use Rattle.psci_world_spec.specs.declared.event.Event.TheVariants.{Deliver, Take}
+use Rattle.psci_world_spec.specs.declared.event.Event.TheVariants.{Call, Deliver, Enter, Reset}
+use Rattle.psci_world_spec.specs.declared.event.Event.TheVariants.{Take, Wake}
 use Rattle.psci_world_spec.specs.declared.said.Record.{Record}
-use Rattle.psci_world_spec.specs.declared.said.Said.TheVariants.{Fw, Kick, Acked, Ignored, Taken}
-use Rattle.psci_world_spec.specs.declared.said.Said.TheVariants.{Absent}
+use Rattle.psci_world_spec.specs.declared.said.Said.TheVariants.{Absent, Acked, Fw, Ignored}
+use Rattle.psci_world_spec.specs.declared.said.Said.TheVariants.{Kick, Taken}
 use Rattle.psci_world_spec.proofs.Scripts.{board, computing}
 use Rattle.psci_audit.specs.Entries.{Entry, Asked, Controlled}
 use Rattle.psci_audit.specs.Told.{Tells, asked, controlled}
-use Rattle.psci_audit.proofs.ListRows.{ack_3, boots, delivers_3, enters, not_woken, on_3, resets}
-use Rattle.psci_audit.proofs.ListRows.{start, start_3, start_number, takes_3, version, wakes}
-use Rattle.psci_audit.proofs.ListRows.{applied_in, started_in}
-use Rattle.std.proofs.lemmas.Bool.{eqb-false}
-use Rattle.std.proofs.Common.{◌∙◌}
+use Rattle.psci_audit.proofs.ListRows.{ack_3, boots, delivers_3, enters, not_woken}
+use Rattle.psci_audit.proofs.ListRows.{on_3, resets, start, start_3}
+use Rattle.psci_audit.proofs.ListRows.{takes_3, version, wakes}
 
 -- the boot core enters
 abbrev entered : Record
@@ -45,87 +39,11 @@ delivered_3 k = record { event = Deliver k; said = Acked 0 ack_3 }
 abbrev taken_3 : ℕ → Record
 taken_3 k = record { event = Take k; said = Taken takens.Used }
 
--- the number of the start, or the function word, in a call
-abbrev word_of : FwCall → ℕ
-word_of (calls.Enter start) = start.number
-word_of (calls.Smc regs) = regs.x0
-word_of (calls.Take ack) = 0
-
-abbrev asked_for : FwExchange → ℕ
-asked_for e = word_of e.call
-
--- what a call of the power controller names, or 9
-abbrev halted_in : CtlCall → ℕ
-halted_in (asks.Wake core halted) = halted
-halted_in call = 9
-
-abbrev core_of : CtlCall → ℕ
-core_of (asks.Reset core) = core.number
-core_of call = 9
-
 -- Told -----------------------------------------------------------------------------------------
-
-no_records : Tells board [] []
-no_records = tt
-
--- one entry for each record, in order: by the core's last start, by the numbers of the message and
--- of the acknowledgement
-whole : Tells board (taken_3 0 ∷ delivered_3 0 ∷ asked_3 ∷ entered ∷ [])
-    (takes_3 ∷ delivers_3 ∷ on_3 ∷ boots ∷ [])
-unfolding computing
-whole = (
-  (ack_3, refl, refl),
-  ((start_3, refl, refl), (refl, ((start 1 causes.Boot, refl, refl), tt))),
-)
-
--- a wake-up that starts a core names its last start; one of a core that runs may name any
-wake_up : Tells board (record { event = Wake 1; said = Kick (start 1 causes.Wake) } ∷ [])
-    (wakes 1 0 1 ∷ [])
-unfolding computing
-wake_up = (refl, tt)
-
-ignored : Tells board (record { event = Wake 0; said = Ignored } ∷ entered ∷ [])
-    (not_woken 0 7 ∷ boots ∷ [])
-unfolding computing
-ignored = ((7, (λ e. cc), refl), ((start 1 causes.Boot, refl, refl), tt))
-
-reset_told : Tells board (record { event = Reset 2; said = Kick (start 1 causes.Reset) } ∷ [])
-    (resets 2 1 ∷ [])
-reset_told = (refl, tt)
-
--- core 3 enters by its own start, and calls
-entered_3 : Tells board (record { event = Enter 3; said = Fw (acts.Enter 0x40001000 7) None }
-    ∷ delivered_3 0 ∷ asked_3 ∷ entered ∷ [])
-    (enters 3 (start 1 causes.On) 0x40001000 7 ∷ delivers_3 ∷ on_3 ∷ boots ∷ [])
-unfolding computing
-entered_3 = (
-  (start 1 causes.On, refl, refl),
-  ((start_3, refl, refl), (refl, ((start 1 causes.Boot, refl, refl), tt))),
-)
-
-called_3 : Tells board (record {
-  event = Call 3 (record { x0 = 0x84000000; x1 = 0; x2 = 0; x3 = 0 });
-  said = Fw (acts.Return (record { 0 = pos 65537 })) None;
-} ∷ []) (version 3 65537 ∷ [])
-called_3 = (refl, tt)
 
 -- the Start is delivered again, and the second acknowledgement taken
 abbrev stale_3 : AckValue
 stale_3 = record ack_3 { applied = 0; stale = true }
-
-second_ack : Tells board (taken_3 1 ∷ record { event = Deliver 0; said = Acked 1 stale_3 }
-    ∷ delivered_3 0 ∷ asked_3 ∷ entered ∷ [])
-    (Asked (asked 0 (calls.Take stale_3) (replies.Taken takens.Used))
-    ∷ Controlled (controlled (asks.Deliver start_3) (replied.Delivery (deliveries.Applied stale_3)))
-    ∷ delivers_3 ∷ on_3 ∷ boots ∷ [])
-unfolding computing
-second_ack = (
-  (stale_3, refl, refl),
-  (
-    (start_3, refl, refl),
-    ((start_3, refl, refl), (refl, ((start 1 causes.Boot, refl, refl), tt))),
-  ),
-)
 
 -- a message that is ignored
 abbrev ignored_3 : Record
@@ -134,17 +52,40 @@ ignored_3 = record { event = Deliver 0; said = Ignored }
 abbrev not_delivered : Entry
 not_delivered = Controlled (controlled (asks.Deliver start_3) (replied.Delivery deliveries.Ignored))
 
-delivery_ignored : Tells board (ignored_3 ∷ asked_3 ∷ entered ∷ [])
-    (not_delivered ∷ on_3 ∷ boots ∷ [])
+told :
+    Tells board [] []
+    -- one entry for each record, in order: by the core's last start, by the numbers of the message
+    -- and of the acknowledgement
+    × Tells board (taken_3 0 ∷ delivered_3 0 ∷ asked_3 ∷ entered ∷ []) (takes_3 ∷ delivers_3 ∷ on_3
+    ∷ boots ∷ [])
+    -- a wake-up that starts a core names its last start; one of a core that runs may name any
+    × Tells board (record { event = Wake 1; said = Kick (start 1 causes.Wake) } ∷ []) (wakes 1 0 1 ∷
+    [])
+    × Tells board (record { event = Wake 0; said = Ignored } ∷ entered ∷ []) (not_woken 0 7 ∷ boots
+    ∷ [])
+    × Tells board (record { event = Reset 2; said = Kick (start 1 causes.Reset) } ∷ []) (resets 2 1
+    ∷ [])
+    -- core 3 enters by its own start, and calls
+    × Tells board (record { event = Enter 3; said = Fw (acts.Enter 0x40001000 7) None } ∷
+    delivered_3 0 ∷ asked_3 ∷ entered ∷ []) (enters 3 (start 1 causes.On) 0x40001000 7 ∷ delivers_3
+    ∷ on_3 ∷ boots ∷ [])
+    × Tells board (record {
+      event = Call 3 (record { x0 = 0x84000000; x1 = 0; x2 = 0; x3 = 0 });
+      said = Fw (acts.Return (record { 0 = pos 65537 })) None;
+    } ∷ []) (version 3 65537 ∷ [])
+    × Tells board (taken_3 1 ∷ record { event = Deliver 0; said = Acked 1 stale_3 } ∷ delivered_3 0
+    ∷ asked_3 ∷ entered ∷ []) (Asked (asked 0 (calls.Take stale_3) (replies.Taken takens.Used)) ∷
+    Controlled (controlled (asks.Deliver start_3) (replied.Delivery (deliveries.Applied stale_3))) ∷
+    delivers_3 ∷ on_3 ∷ boots ∷ [])
+    × Tells board (ignored_3 ∷ asked_3 ∷ entered ∷ []) (not_delivered ∷ on_3 ∷ boots ∷ [])
+    -- a core that is woken again names its first start
+    × Tells board (record { event = Wake 1; said = Kick (start 2 causes.Wake) } ∷ record {
+      event =
+          Wake 1;
+      said = Kick (start 1 causes.Wake);
+    } ∷ []) (wakes 1 1 2 ∷ wakes 1 0 1 ∷ [])
 unfolding computing
-delivery_ignored = ((start_3, refl, refl), (refl, ((start 1 causes.Boot, refl, refl), tt)))
-
--- a core that is woken again names its first start
-woken_again_told : Tells board (record { event = Wake 1; said = Kick (start 2 causes.Wake) }
-    ∷ record { event = Wake 1; said = Kick (start 1 causes.Wake) } ∷ [])
-    (wakes 1 1 2 ∷ wakes 1 0 1 ∷ [])
-unfolding computing
-woken_again_told = (refl, (refl, tt))
+told = search arith
 
 -- Not told -------------------------------------------------------------------------------------
 
@@ -155,15 +96,13 @@ refused :
     -- what the world does not carry out is no entry
     × ¬ (Tells board (record { event = Enter 0; said = Ignored } ∷ []) (boots ∷ []))
     × ¬ (Tells board (record { event = Reset 9; said = Absent } ∷ []) (resets 9 1 ∷ []))
-refused = (λ tells. tells, λ tells. tells.1, λ tells. tells.0, λ tells. tells.0)
+refused = search arith
 
 -- another start than the core's last
 other_start : Tells board (entered ∷ [])
     (enters 0 (start 2 causes.Boot) 0x40000000 0 ∷ []) → ⊥
 unfolding computing
-other_start tells =
-    let e : 1 ≡ tells.0.0.number = ap start_number tells.0.1 in
-    let d : 2 ≡ tells.0.0.number = ap asked_for tells.0.2 in omega (arith, e, d)
+other_start = search arith
 
 told_otherwise :
     -- the message of another number
@@ -179,12 +118,4 @@ told_otherwise :
     (resets 3 1 ∷ []))
     × ¬ (Tells board (record { event = Reset 2; said = Ignored } ∷ []) (resets 2 1 ∷ []))
 unfolding computing
-told_otherwise = (
-  λ tells. let e = tells.0.1 in cc,
-  λ tells. eqb-false 0x84000000 0xc4000003 refl (ap asked_for tells.0),
-  λ tells. eqb-false 1 9 refl (ap (λ (x : CtlExchange). applied_in x.reply) tells.0.2),
-  λ tells. eqb-false 7 0 refl
-      (ap (λ (x : CtlExchange). halted_in x.call) tells.0.2 ∙ tells.0.1 refl),
-  λ tells. eqb-false 3 2 refl (ap (λ (x : CtlExchange). core_of x.call) tells.0),
-  λ tells. eqb-false 1 9 refl (ap (λ (x : CtlExchange). started_in x.reply) tells.0),
-)
+told_otherwise = search arith

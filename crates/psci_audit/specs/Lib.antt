@@ -1,7 +1,4 @@
 pub mod Entries
-pub mod Following
-pub mod Legal
-pub mod Merged
-pub mod Replies
 pub mod Told
+pub mod Merged
 pub use Rattle.psci_world.specs.psci_board

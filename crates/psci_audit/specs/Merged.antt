@@ -1,15 +1,13 @@
 -- The merged list of two books, which tickets fit, and what an audit answers.
-use Rattle.std.specs.Prelude.{◌≡◌, ◌<◌, ◌⊎◌, ℕ, nat_lt, Bool, true, false, if◌then◌else◌}
-use Rattle.std.specs.Prelude.{List, [], ◌∷◌, ◌++◌, length, map, reverse, Option, None, Some}
-use Rattle.std.specs.Prelude.{Result, Ok, Err}
+use Rattle.std.specs.Prelude.{◌++◌, ◌<◌, ◌∷◌, ◌≡◌, ◌⊎◌, [], Bool, Err, false, if◌then◌else◌}
+use Rattle.std.specs.Prelude.{length, List, map, nat_lt, None, Ok, Option, Result, reverse, Some}
+use Rattle.std.specs.Prelude.{true, ℕ}
 use Rattle.psci_world.specs.psci_board.Board.{BoardValue}
 use Rattle.psci_world_spec.specs.psci_fw_spec.declared.call.FwCall.{FwCall}
 use Rattle.psci_world_spec.specs.psci_fw_spec.declared.call.FwCall.TheVariants as calls
-use Rattle.psci_shared.specs.Entries.{FwEntry}
-use Rattle.psci_shared.specs.CtlEntries.{CtlEntry}
+use Rattle.psci_shared.specs.Places.{CtlEntry, FwEntry}
 use Rattle.psci_shared.specs.declared.entry.Entry.{Entry as Booked}
-use Rattle.psci_audit.specs.Entries.{Entry, Asked, Controlled}
-use Rattle.psci_audit.specs.Legal.{IsLegal, MayFollow}
+use Rattle.psci_audit.specs.Entries.{Asked, Controlled, Entry, IsLegal, MayFollow}
 use Rattle.psci_audit.specs.Told.{asked, controlled}
 use Rattle.psci_world.specs.psci_board.declared.memory.Memory.{Memory as NoMemory}
 use Rattle.psci_audit.specs.declared.fault.AuditFault.{AuditFault}

@@ -1,35 +1,34 @@
 -- Which list a run of the world tells: one entry for each record, in order, with the same reply.
-use Rattle.std.specs.Prelude.{◌≡◌, ℕ, List, [], ◌∷◌, Some}
+use Rattle.std.specs.Prelude.{◌∷◌, ◌≡◌, [], Bool, false, List, Some, true, ℕ}
+use Rattle.psci_world_spec.specs.Legal.{acks, controller_values, indexed, IsLegalPast}
+use Rattle.psci_world_spec.specs.Legal.{outcome_in, place, sent}
+use Rattle.psci_world_spec.specs.declared.event.Event.{Event}
+use Rattle.psci_world_spec.specs.declared.event.Event.TheVariants.{Call, Deliver, Enter, Reset}
+use Rattle.psci_world_spec.specs.declared.event.Event.TheVariants.{Take, Wake}
+use Rattle.psci_world_spec.specs.declared.place.Place.TheVariants.{Stopped}
+use Rattle.psci_world_spec.specs.declared.said.Record.{Record}
+use Rattle.psci_world_spec.specs.declared.said.Said.{Said}
+use Rattle.psci_world_spec.specs.declared.said.Said.TheVariants.{Acked, Fw, Ignored, Kick}
+use Rattle.psci_world_spec.specs.declared.said.Said.TheVariants.{Taken as Took}
 use Rattle.psci_world_spec.specs.psci_board.Board.{BoardValue}
+use Rattle.psci_world_spec.specs.psci_ctl_spec.Values.{CtlExchange}
+use Rattle.psci_world_spec.specs.psci_ctl_spec.Replies.{last_start}
 use Rattle.psci_world_spec.specs.psci_ctl_spec.declared.call.CtlCall.{CtlCall}
 use Rattle.psci_world_spec.specs.psci_ctl_spec.declared.call.CtlCall.TheVariants as asks
 use Rattle.psci_world_spec.specs.psci_ctl_spec.declared.delivery.Delivery.TheVariants as deliveries
 use Rattle.psci_world_spec.specs.psci_ctl_spec.declared.kick.Kick.TheVariants as kicks
 use Rattle.psci_world_spec.specs.psci_ctl_spec.declared.reply.CtlReply.{CtlReply}
 use Rattle.psci_world_spec.specs.psci_ctl_spec.declared.reply.CtlReply.TheVariants as replied
-use Rattle.psci_world_spec.specs.psci_ctl_spec.Exchange.{CtlExchange}
-use Rattle.psci_world_spec.specs.psci_ctl_spec.Replies.{last_start}
+use Rattle.psci_world_spec.specs.psci_fw_spec.Effects.{FwExchange}
 use Rattle.psci_world_spec.specs.psci_fw_spec.declared.call.FwCall.{FwCall}
 use Rattle.psci_world_spec.specs.psci_fw_spec.declared.call.FwCall.TheVariants as calls
 use Rattle.psci_world_spec.specs.psci_fw_spec.declared.reply.FwReply.{FwReply}
 use Rattle.psci_world_spec.specs.psci_fw_spec.declared.reply.FwReply.TheVariants as replies
-use Rattle.psci_world_spec.specs.psci_fw_spec.Exchange.{FwExchange}
-use Rattle.psci_world_spec.specs.psci_messages.declared.start.Start.{Start}
 use Rattle.psci_world_spec.specs.psci_messages.Message.{AckValue, MessageValue}
-use Rattle.psci_world_spec.specs.declared.event.Event.{Event}
-use Rattle.psci_world_spec.specs.declared.event.Event.TheVariants.{Call, Enter, Wake, Reset}
-use Rattle.psci_world_spec.specs.declared.event.Event.TheVariants.{Deliver, Take}
-use Rattle.psci_world_spec.specs.declared.place.Place.TheVariants.{Stopped}
-use Rattle.psci_world_spec.specs.declared.said.Record.{Record}
-use Rattle.psci_world_spec.specs.declared.said.Said.{Said}
-use Rattle.psci_world_spec.specs.declared.said.Said.TheVariants.{Fw, Kick, Acked, Ignored}
-use Rattle.psci_world_spec.specs.declared.said.Said.TheVariants.{Taken as Took}
-use Rattle.psci_world_spec.specs.Histories.{acks, controller_values, outcome_in, sent}
-use Rattle.psci_world_spec.specs.Legal.{IsLegalPast}
-use Rattle.psci_world_spec.specs.Lists.{indexed}
-use Rattle.psci_world_spec.specs.Places.{place}
+use Rattle.psci_world_spec.specs.psci_messages.declared.start.Start.{Start}
 use Rattle.psci_headline.specs.Safe.{AlwaysSafe}
-use Rattle.psci_audit.specs.Entries.{Entry, Asked, Controlled}
+use Rattle.psci_world.specs.Settles.{WorldValue}
+use Rattle.psci_audit.specs.Entries.{Asked, Controlled, Entry, MayFollow}
 
 -- a call of the firmware, with its reply
 abbrev pub asked : ℕ → FwCall → FwReply → FwExchange
@@ -87,3 +86,40 @@ pub record IsListOfSafe (b : BoardValue) (entries : List Entry) : Type 0 where
   pub legal : IsLegalPast b past
   pub tells : Tells b past entries
   pub safe : AlwaysSafe b past
+
+-- One entry more ----------------------------------------------------------------------------------
+
+-- whether an entry may follow those that the records tell, which then tell it too
+abbrev pub Follows : WorldValue → WorldValue → List Entry → Entry → Bool → Type 0
+Follows old new entries e true =
+    MayFollow old.board entries e × Tells old.board new.past (e ∷ entries)
+Follows old new entries e false = MayFollow old.board entries e → ⊥
+
+-- whichever entries the records tell
+abbrev pub IsStep : WorldValue → WorldValue → Entry → Bool → Type 0
+IsStep old new e may =
+    (entries : List Entry) → Tells old.board old.past entries → Follows old new entries e may
+
+-- Which reply what was said of an event is --------------------------------------------------------
+
+-- an outcome of the firmware
+abbrev pub SaysOutcome : Said → FwReply → Type 0
+SaysOutcome (Fw act sends) r = r ≡ replies.Out (outcome_in act sends)
+SaysOutcome said r = ⊥
+
+-- what became of an acknowledgement
+abbrev pub SaysTaken : Said → FwReply → Type 0
+SaysTaken (Took taken) r = r ≡ replies.Taken taken
+SaysTaken said r = ⊥
+
+-- what became of a message
+abbrev pub SaysDelivery : Said → CtlReply → Type 0
+SaysDelivery (Acked index ack) r = r ≡ replied.Delivery (deliveries.Applied ack)
+SaysDelivery Ignored r = r ≡ replied.Delivery deliveries.Ignored
+SaysDelivery said r = ⊥
+
+-- what became of a wake-up or a reset
+abbrev pub SaysKick : Said → CtlReply → Type 0
+SaysKick (Kick start) r = r ≡ replied.Kick (kicks.Started start)
+SaysKick Ignored r = r ≡ replied.Kick kicks.Ignored
+SaysKick said r = ⊥

@@ -4,15 +4,13 @@
 ghost use Rattle.std.specs.Prelude.{◌≡◌, ◌<◌, ◌↔◌, ℕ, IfOk, IsTrue, List, Some};
 ghost use Rattle.psci_audit.specs.Merged.{asked_by, controlled_by};
 ghost use Rattle.psci_world.specs.psci_board.Board.{cores};
-ghost use Rattle.psci_audit.specs.Following.{IsStep};
+ghost use Rattle.psci_audit.specs.Told.{asked, controlled, IsStep, Tells};
 ghost use Rattle.psci_audit.specs.Entries.{Entry, Asked, Controlled};
-ghost use Rattle.psci_audit.specs.Told.{Tells, asked, controlled};
 ghost use Rattle.psci_world_spec.specs.psci_fw_spec.declared.call.FwCall.TheVariants as calls;
 ghost use Rattle.psci_world_spec.specs.psci_ctl_spec.declared.call.CtlCall.TheVariants as asks;
 ghost use Rattle.psci_world_spec.specs.psci_ctl_spec.Replies.{last_start};
 ghost use Rattle.psci_world_spec.specs.declared.place.Place.TheVariants.{Stopped};
-ghost use Rattle.psci_world_spec.specs.Histories.{controller_values};
-ghost use Rattle.psci_world_spec.specs.Places.{place};
+ghost use Rattle.psci_world_spec.specs.Legal.{controller_values, place};
 
 use crate::finding::{find_ack, find_message};
 use crate::said::{says_delivery, says_kick, says_outcome, says_taken};

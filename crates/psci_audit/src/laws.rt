@@ -2,8 +2,7 @@
 
 ghost use Rattle.std.specs.Prelude.{List};
 ghost use Rattle.psci_world_spec.specs.psci_board.Board.{BoardValue, IsBoard};
-ghost use Rattle.psci_audit.specs.Entries.{Entry};
-ghost use Rattle.psci_audit.specs.Legal.{IsLegal};
+ghost use Rattle.psci_audit.specs.Entries.{Entry, IsLegal};
 ghost use Rattle.psci_audit.specs.Told.{IsListOf, IsListOfSafe};
 ghost use Rattle.psci_world_spec.specs.declared.said.Record.{Record};
 ghost use Rattle.psci_world_spec.specs.Legal.{IsLegalPast};

@@ -1,9 +1,9 @@
 //! The audit of a trace.
 
 ghost use Rattle.std.specs.Prelude.{◌≡◌, ◌<◌, [], IfErr, IfOk, IsTrue, OnOk, length};
-ghost use Rattle.psci_audit.specs.Merged.{IsFault, IsFirstIllegal, IsFollowed, IsJudged, IsSound};
-ghost use Rattle.psci_audit.specs.Merged.{history_of, is_asked_first, merged};
-ghost use Rattle.psci_audit.specs.Legal.{IsLegal};
+ghost use Rattle.psci_audit.specs.Merged.{history_of, is_asked_first, IsFault, IsFirstIllegal};
+ghost use Rattle.psci_audit.specs.Merged.{IsFollowed, IsJudged, IsSound, merged};
+ghost use Rattle.psci_audit.specs.Entries.{IsLegal};
 ghost use Rattle.psci_audit.specs.Told.{IsListOfSafe, Tells};
 
 use crate::fault::AuditFault;

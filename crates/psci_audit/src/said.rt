@@ -1,7 +1,7 @@
 //! Whether what was said of an event is a reply.
 
 ghost use Rattle.std.specs.Prelude.{◌≡◌, ◌↔◌, IsTrue, option_map};
-ghost use Rattle.psci_audit.specs.Replies.{SaysDelivery, SaysKick, SaysOutcome, SaysTaken};
+ghost use Rattle.psci_audit.specs.Told.{SaysDelivery, SaysKick, SaysOutcome, SaysTaken};
 
 use psci_ctl::{CtlReply, Delivery, Kick};
 use psci_fw::FwReply;

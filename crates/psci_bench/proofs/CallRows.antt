@@ -1,6 +1,6 @@
 -- Worked examples: which calls end a life.
 use Rattle.psci_abi.specs.declared.request.Request.TheVariants as calls
-use Rattle.psci_bench.specs.Calls.{EndsLife}
+use Rattle.psci_bench.specs.Watches.{EndsLife}
 
 ends_a_life : EndsLife calls.SystemOff × EndsLife calls.SystemReset
     -- of the type that resets, of one that there is not, and of the vendor

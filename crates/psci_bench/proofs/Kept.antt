@@ -1,27 +1,24 @@
 -- What was seen by polls stays seen, and stands in the history once the passes are gathered.
-use Rattle.std.proofs.Common.{◌≡◌, inl, inr, ⊎_elim, ℕ, suc, ◌-◌, ◌<◌, List, [], ◌∷◌, ◌++◌}
-use Rattle.std.proofs.Common.{arith, length, refl, sym, ap, ◌∙◌, subst, Option, Some, None}
+use Rattle.std.proofs.Common.{◌++◌, ◌-◌, ◌<◌, ◌∙◌, ◌∷◌, ◌≡◌, [], ap, arith, inl, inr, length}
+use Rattle.std.proofs.Common.{List, None, Option, refl, Some, subst, suc, sym, ℕ, ⊎_elim}
 use Rattle.std.specs.Prelude.{slice_get, IfSome, IfOk, IfErr, OnErr, Result, Ok, Err}
 use Rattle.psci_fw.specs.psci_board.Board.{BoardValue, cores}
-use Rattle.psci_fw.specs.psci_board.declared.node.Core.{Core}
+use Rattle.psci_fw.specs.psci_board.declared.draft.Core.{Core}
 use Rattle.psci_fw.specs.psci_fw_spec.declared.call.FwCall.{FwCall}
 use Rattle.psci_fw.specs.psci_fw_spec.declared.reply.FwReply.{FwReply}
 use Rattle.psci_fw.specs.psci_fw_spec.declared.reply.FwReply.TheVariants.{Fault}
 use Rattle.psci_fw.specs.psci_fw_spec.declared.status.Status.{Status}
 use Rattle.psci_status.specs.Lists.{Item, row}
-use Rattle.psci_shared.specs.Entries.{FwEntry}
+use Rattle.psci_shared.specs.Places.{FwEntry, told}
 use Rattle.psci_shared.specs.declared.fault.CallFault.{CallFault}
 use Rattle.psci_shared.specs.declared.fault.CallFault.TheVariants.{BookFull, Fw}
 use Rattle.psci_shared.specs.declared.sighting.Sighting.{Sighting}
-use Rattle.psci_shared.specs.Gathers.{AllStand}
-use Rattle.psci_shared.specs.Passes.{PassView, IsCalled, IsReadAt, IsRefused}
-use Rattle.psci_shared.specs.Views.{told}
-use Rattle.psci_shared.specs.Polls.{AreInHistory, IsAmong, IsPolled}
-use Rattle.psci_shared.specs.Writing.{Stand}
-use Rattle.psci_shared.proofs.Polling as polling
+use Rattle.psci_shared.specs.Passes.{AllStand, AreInHistory, IsAmong, IsCalled, IsPolled}
+use Rattle.psci_shared.specs.Passes.{IsReadAt, IsRefused, PassView, Stand}
+use Rattle.psci_shared.proofs.Written as polling
 use Rattle.psci_bench.specs.declared.gathering.Polled.{Polled}
-use Rattle.psci_bench.specs.Seen.{AllInHistory, AreSeen, IsSeenByOne}
-use Rattle.psci_bench.specs.Watches.{HasSeen, HaveAllSeen, IsKept, IsLast, IsSeenLast}
+use Rattle.psci_bench.specs.Watches.{AllInHistory, AreSeen, HasSeen, HaveAllSeen, IsKept, IsLast}
+use Rattle.psci_bench.specs.Watches.{IsSeenByOne, IsSeenLast}
 
 -- what the first has seen the second has
 abbrev Keeps : List (List Item) → List (List Item) → Type 0

@@ -5,14 +5,13 @@ use Rattle.psci_audit.specs.psci_board.Board.{BoardValue}
 use Rattle.psci_audit.specs.Merged.{IsFault, IsSound, TicketsFit, history_of, merged}
 use Rattle.psci_audit.specs.Told.{Tells}
 use Rattle.psci_audit.specs.declared.fault.AuditFault.TheVariants as audits
-use Rattle.psci_shared.specs.Entries.{FwEntry}
-use Rattle.psci_shared.specs.CtlEntries.{CtlEntry}
+use Rattle.psci_shared.specs.Places.{CtlEntry, FwEntry}
 use Rattle.psci_bench.specs.declared.gathering.Polled.{Polled}
-use Rattle.psci_bench.specs.Seen.{AllInHistory}
+use Rattle.psci_bench.specs.Watches.{AllInHistory}
 use Rattle.psci_bench.specs.Runs.{IsAudited, IsFound}
-use Rattle.psci_bench.specs.declared.fault.BenchFault.TheVariants.{Gate, Memory, Threads}
-use Rattle.psci_bench.specs.declared.fault.BenchFault.TheVariants.{Audit, Gather}
-use Rattle.psci_bench.specs.declared.running.Threaded.{Threaded}
+use Rattle.psci_bench.specs.declared.gathering.BenchFault.TheVariants.{Audit, Gate, Gather, Memory}
+use Rattle.psci_bench.specs.declared.gathering.BenchFault.TheVariants.{Threads}
+use Rattle.psci_bench.specs.declared.gathering.Threaded.{Threaded}
 
 -- Numbers ---------------------------------------------------------------------------------------
 

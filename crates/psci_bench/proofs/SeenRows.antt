@@ -4,14 +4,13 @@ use Rattle.psci_audit.specs.psci_board.Board.{BoardValue}
 use Rattle.psci_fw.specs.psci_fw_spec.declared.status.Status.{Status}
 use Rattle.psci_fw.specs.psci_fw_spec.declared.status.Status.TheVariants.{On, Off}
 use Rattle.psci_fw.specs.psci_fw_spec.Statuses.{statuses}
-use Rattle.psci_shared.specs.Entries.{FwEntry}
+use Rattle.psci_shared.specs.Places.{FwEntry}
 use Rattle.psci_shared.specs.declared.sighting.Sighting.{Sighting}
-use Rattle.psci_shared.specs.Books.{history_of}
-use Rattle.psci_shared.specs.Polls.{AreInHistory}
+use Rattle.psci_shared.specs.Passes.{AreInHistory, history_of}
 use Rattle.psci_bench.specs.declared.gathering.Polled.{Polled}
-use Rattle.psci_bench.specs.Seen.{AllInHistory}
+use Rattle.psci_bench.specs.Watches.{AllInHistory}
 use Rattle.psci_bench.specs.Runs.{IsAudited}
-use Rattle.psci_bench.specs.declared.running.Threaded.{Threaded}
+use Rattle.psci_bench.specs.declared.gathering.Threaded.{Threaded}
 
 abbrev of : ℕ → ℕ → Status → Sighting
 of core serial status = record { core = record { number = core }; serial = serial; status = status }

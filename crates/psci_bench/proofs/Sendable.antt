@@ -1,16 +1,16 @@
 -- A message that was read on a board can be sent on it.
-use Rattle.std.proofs.Common.{◌≡◌, ℕ, ◌+◌, ◌≤◌, true, ◌==◌, List, [], ◌∷◌, length}
-use Rattle.std.proofs.Common.{arith, subst, sym}
+use Rattle.std.proofs.Common.{◌+◌, ◌==◌, ◌∷◌, ◌≡◌, ◌≤◌, [], arith, length, List, subst, sym}
+use Rattle.std.proofs.Common.{true, ℕ}
 use Rattle.std.specs.Prelude.{nat_le}
 use Rattle.std.proofs.lemmas.Bool.{and_parts, eqb-true, leb-true}
 use Rattle.psci_board.specs.Board.{BoardValue, height}
 use Rattle.psci_messages.specs.declared.part.Part.{Part}
-use Rattle.psci_link.specs.declared.frame.Frame.TheVariants.{Message}
+use Rattle.psci_link.specs.declared.encoding.Frame.TheVariants.{Message}
 use Rattle.psci_messages.specs.declared.kind.Kind.{Kind}
 use Rattle.psci_messages.specs.declared.kind.Kind.TheVariants as kinds
 use Rattle.psci_link.specs.Frame.{IsOf, is_within}
 use Rattle.psci_messages.specs.Message.{ArePartsOf, IsMessage, MessageValue, is_climbing}
-use Rattle.psci_ctl.specs.psci_ctl_spec.Legal.{IsSendable}
+use Rattle.psci_ctl.specs.psci_ctl_spec.History.{IsSendable}
 
 -- levels that count up and stay within the height are few
 climbing : (h level : ℕ) (ps : List Part) → level ≤ h + 1 → is_climbing level ps ≡ true

@@ -1,19 +1,17 @@
 -- Worked examples of what was seen by polls, and of how it is kept.
-use Rattle.std.proofs.Common.{◌≡◌, inl, inr, ℕ, ◌<◌, List, [], ◌∷◌, refl, sym, subst}
-use Rattle.std.proofs.Common.{arith, false, Some, None}
-use Rattle.psci_fw.specs.psci_abi.declared.format.Format.TheVariants.{Original}
+use Rattle.std.proofs.Common.{◌<◌, ◌∷◌, ◌≡◌, [], arith, false, inl, inr, List, None, refl, Some}
+use Rattle.std.proofs.Common.{subst, sym, ℕ}
+use Rattle.psci_fw.specs.psci_abi.declared.registers.Format.TheVariants.{Original}
 use Rattle.psci_fw.specs.psci_board.Board.{BoardValue}
 use Rattle.psci_fw.specs.psci_fw_spec.declared.status.Status.{Status}
 use Rattle.psci_fw.specs.psci_fw_spec.declared.status.Status.TheVariants.{Off, Pending}
 use Rattle.psci_fw.specs.psci_fw_spec.Statuses.{statuses}
 use Rattle.psci_status.specs.Lists.{Item}
 use Rattle.psci_shared.specs.declared.sighting.Sighting.{Sighting}
-use Rattle.psci_shared.specs.Books.{history_of}
-use Rattle.psci_shared.specs.Passes.{PassView}
-use Rattle.psci_shared.specs.Polls.{AreInHistory}
+use Rattle.psci_shared.specs.Passes.{AreInHistory, history_of, PassView}
 use Rattle.psci_bench.specs.declared.gathering.Polled.{Polled}
-use Rattle.psci_bench.specs.Seen.{AllInHistory, AreSeen, IsSeenByOne}
-use Rattle.psci_bench.specs.Watches.{HasSeen, HaveAllSeen, IsSeenLast}
+use Rattle.psci_bench.specs.Watches.{AllInHistory, AreSeen, HasSeen, HaveAllSeen, IsSeenByOne}
+use Rattle.psci_bench.specs.Watches.{IsSeenLast}
 
 -- two cores
 abbrev board : BoardValue

@@ -1,9 +1,5 @@
-pub mod Calls
-pub mod Counts
-pub mod Histories
-pub mod Runs
-pub mod Seen
 pub mod Watches
+pub mod Runs
 pub use Rattle.psci_audit.specs as psci_audit
 pub use Rattle.psci_storm.specs as psci_storm
 pub use Rattle.psci_fw.specs as psci_fw

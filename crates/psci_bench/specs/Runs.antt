@@ -3,13 +3,12 @@ use Rattle.std.specs.Prelude.{◌≡◌, ℕ, List, length}
 use Rattle.psci_audit.specs.psci_board.Board.{BoardValue}
 use Rattle.psci_audit.specs.Merged.{IsFault, IsSound, history_of}
 use Rattle.psci_audit.specs.Told.{Tells}
-use Rattle.psci_shared.specs.Entries.{FwEntry}
-use Rattle.psci_shared.specs.CtlEntries.{CtlEntry}
-use Rattle.psci_bench.specs.Seen.{AllInHistory}
-use Rattle.psci_bench.specs.declared.fault.BenchFault.{BenchFault}
-use Rattle.psci_bench.specs.declared.fault.BenchFault.TheVariants.{Gate, Memory, Threads}
-use Rattle.psci_bench.specs.declared.fault.BenchFault.TheVariants.{Audit, Gather}
-use Rattle.psci_bench.specs.declared.running.Threaded.{Threaded}
+use Rattle.psci_shared.specs.Places.{CtlEntry, FwEntry}
+use Rattle.psci_bench.specs.Watches.{AllInHistory}
+use Rattle.psci_bench.specs.declared.gathering.BenchFault.{BenchFault}
+use Rattle.psci_bench.specs.declared.gathering.BenchFault.TheVariants.{Audit, Gate, Gather, Memory}
+use Rattle.psci_bench.specs.declared.gathering.BenchFault.TheVariants.{Threads}
+use Rattle.psci_bench.specs.declared.gathering.Threaded.{Threaded}
 
 -- The numbers are those of the entries of each book and of the merged list, which is legal. The
 -- world is on the board, and its records tell that list: one for each entry, with the same reply.

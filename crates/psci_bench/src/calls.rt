@@ -3,7 +3,7 @@
 ghost use Rattle.std.specs.Prelude.{◌≡◌, ◌≢◌, ◌<◌, ℕ};
 ghost use Rattle.psci_abi.specs.declared.request.Request.TheVariants.{CpuOn, Version};
 ghost use Rattle.psci_board.specs.Board.{cores};
-ghost use Rattle.psci_bench.specs.Calls.{EndsLife};
+ghost use Rattle.psci_bench.specs.Watches.{EndsLife};
 
 use psci_abi::Request;
 use psci_board::{Board, Core};

@@ -4,12 +4,10 @@ ghost use Rattle.std.specs.Prelude.{◌≡◌, ◌≤◌, [], ◌∷◌, replica
 ghost use Rattle.psci_fw.specs.psci_board.Board.{cores};
 ghost use Rattle.psci_fw.specs.psci_fw_spec.declared.status.Status.TheVariants.{Off};
 ghost use Rattle.psci_status.specs.Seats.{table, table_of_writer, written};
-ghost use Rattle.psci_bench.specs.Histories.{AreLegalCalls, AreLegalControls};
-ghost use Rattle.psci_bench.specs.Seen.{AllInHistory};
+ghost use Rattle.psci_bench.specs.Watches.{AllInHistory, AreLegalCalls, AreLegalControls};
 
-use crate::cut::Cut;
 use crate::gate::Gate;
-use crate::gathering::{Gathered, gather};
+use crate::gathering::{Cut, Gathered, gather};
 use crate::link::Link;
 use crate::platform::{Platform, Returned};
 use crate::watch::Watch;

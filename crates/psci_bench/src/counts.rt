@@ -1,7 +1,7 @@
 //! What the firmware's book of a run has of each core.
 
 ghost use Rattle.std.specs.Prelude.{◌≡◌};
-ghost use Rattle.psci_bench.specs.Counts.{calls_of, entries_of, is_by, is_call_by};
+ghost use Rattle.psci_bench.specs.Watches.{calls_of, entries_of, is_by, is_call_by};
 
 use psci_audit::{FwCall, FwEntry};
 use psci_shared::Core;

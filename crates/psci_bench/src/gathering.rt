@@ -1,19 +1,29 @@
 //! What a run hands back: the entries of both books, gathered with the passes of all threads, and
 //! what these saw by polls.
 
-ghost use Rattle.std.specs.Prelude.{◌≡◌, IfOk, List, OnOk};
-ghost use Rattle.psci_shared.specs.Gathers.{AllStand};
+ghost use Rattle.std.specs.Prelude.{◌≡◌, ◌≤◌, IfErr, IfOk, List, OnOk};
+ghost use Rattle.psci_audit.specs.Merged.{history_of};
+ghost use Rattle.psci_audit.specs.Told.{IsListOfSafe};
+ghost use Rattle.psci_audit.specs.psci_board.Board.{BoardValue, cores};
+ghost use Rattle.psci_bench.specs.Runs.{IsAudited, IsFound};
+ghost use Rattle.psci_bench.specs.Watches.{AllInHistory, AreLegalCalls, AreLegalControls, AreSeen};
+ghost use Rattle.psci_bench.specs.Watches.{IsSeenByOne};
 ghost use Rattle.psci_bench.specs.declared.gathering.Polled.{Polled};
-ghost use Rattle.psci_bench.specs.Histories.{AreLegalCalls, AreLegalControls};
-ghost use Rattle.psci_bench.specs.Seen.{AllInHistory, AreSeen, IsSeenByOne};
+ghost use Rattle.psci_shared.specs.Passes.{AllStand};
 
-use crate::cut::Cut;
+use crate::cores::run_cores;
+use crate::gate::Gate;
 use crate::platform::Returned;
 use crate::watch::Watch;
+use psci_audit::{AuditFault, Retold, Trace, World, retell};
 use psci_shared::{
-    Core, CtlEntry, CtlPass, FwEntry, Named, Pass, SharedController, SharedFirmware, Sighting,
+    Board, Core, CtlEntry, CtlPass, FwEntry, Memory, Named, Pass, PassFault, SharedController,
+    SharedFirmware, Sighting,
 };
-use std::alloc::Global;
+use std::alloc::{AllocError, AllocFailed, Global};
+use std::sync::Wait;
+use std::thread::Threads;
+use thiserror::Error;
 
 /// The entries of both books, each in the order of its book, and what was seen by polls.
 #[derive(Drop)]
@@ -150,4 +160,162 @@ fn controller_entries<M: Named>(
         return Err(Cut::Gather);
     };
     Ok(books.book.into_entries())
+}
+
+// Why a run of threads has no entries to hand back.
+
+/// Why a run of threads has no entries to hand back.
+#[derive(Clone, Copy, Debug, PartialEq, Eq)]
+pub enum Cut {
+    /// The gate said no.
+    Gate,
+    /// Memory ran out.
+    Memory,
+    /// A thread could not be made.
+    Threads,
+    /// The passes do not agree with the books.
+    Gather,
+}
+
+impl From<AllocError> for Cut {
+    fn from(_fault: AllocError) -> Cut {
+        Cut::Memory
+    }
+}
+
+impl<T: Drop> From<AllocFailed<T>> for Cut {
+    fn from(_fault: AllocFailed<T>) -> Cut {
+        Cut::Memory
+    }
+}
+
+impl From<Memory> for Cut {
+    fn from(_fault: Memory) -> Cut {
+        Cut::Memory
+    }
+}
+
+/// There are passes enough for each core of a board of 64, and each has its core.
+impl From<PassFault> for Cut {
+    fn from(_fault: PassFault) -> Cut {
+        Cut::Memory
+    }
+}
+
+// Why a run of threads gives no audited trace.
+
+/// Why a run of threads gives no audited trace.
+#[derive(Clone, Copy, Debug, PartialEq, Eq, Error)]
+pub enum BenchFault {
+    /// The gate said no.
+    #[error("the gate said no")]
+    Gate,
+    /// Memory ran out.
+    #[error("out of memory")]
+    Memory,
+    /// A thread could not be made.
+    #[error("a thread could not be made")]
+    Threads,
+    /// The trace is not that of one legal run.
+    #[error("the audit refuses the trace: {0}")]
+    Audit(AuditFault),
+    /// The passes do not agree with the books.
+    #[error("the passes are not gathered")]
+    Gather,
+}
+
+/// The fault of a run that was cut short so.
+#[tactic(auto, unfolding(crate::specs::Runs::IsFound))]
+pub(crate) fn fault_of(cut: Cut) -> BenchFault
+    ensures { (b : BoardValue) → IsFound b result }
+{
+    match cut {
+        Cut::Gate => BenchFault::Gate,
+        Cut::Memory => BenchFault::Memory,
+        Cut::Threads => BenchFault::Threads,
+        Cut::Gather => BenchFault::Gather,
+    }
+}
+
+impl<T: Drop> From<AllocFailed<T>> for BenchFault {
+    fn from(_fault: AllocFailed<T>) -> BenchFault {
+        BenchFault::Memory
+    }
+}
+
+impl From<Memory> for BenchFault {
+    fn from(_fault: Memory) -> BenchFault {
+        BenchFault::Memory
+    }
+}
+
+// A run of core threads, and what the audit says of its trace.
+
+/// A run of threads that the audit found legal.
+#[derive(Drop)]
+pub struct Threaded {
+    /// The entries of both books.
+    pub trace: Trace,
+    /// How many calls the firmware's book has.
+    pub firmware: u64,
+    /// How many calls the power controller's book has.
+    pub controller: u64,
+    /// How many entries the audit found to be one legal run.
+    pub audited: u64,
+    /// The run as a world has it: its records tell the entries of both books, in order.
+    pub world: World,
+    /// What each core's thread has read without the lock, core by core: how often, and what it saw.
+    pub polls: Vec<Polled>,
+}
+
+/// Runs a thread for each core, which makes so many calls at most, and one for the link; then
+/// audits what they did. The gate is asked before each call. Which calls are made and how frames
+/// travel is drawn from the seed, but the order of threads is the machine's, so runs differ.
+///
+/// What each core's thread saw by polls stands in the audited run: it is a status that the core had
+/// after the entries of the firmware's book, by its serial.
+pub fn threads<R: Threads + Wait + Sync, G: Gate + Sync>(
+    rt: &R,
+    alloc: Global,
+    board: &Board,
+    seed: u64,
+    count: u64,
+    gate: &G,
+) -> Result<Threaded, BenchFault>
+    requires { cores board.now ≤ 64 }
+    ensures ok { IfOk result (λ t. IsAudited board.now t) }
+    ensures safe { IfOk result (λ t. IsListOfSafe board.now
+        (history_of t.trace.firmware.items t.trace.controller.items)) }
+    ensures fault { IfErr result (λ f. IsFound board.now f) }
+{
+    match run_cores(rt, alloc, board, seed, count, gate) {
+        Ok(gathered) => audited(alloc, board, gathered),
+        Err(cut) => Err(fault_of(cut)),
+    }
+}
+
+/// What the audit says of the entries of both books.
+#[tactic(auto, unfolding(crate::specs::Runs::IsFound))]
+fn audited(alloc: Global, board: &Board, gathered: Gathered) -> Result<Threaded, BenchFault>
+    requires { AllInHistory board.now gathered.firmware.items gathered.polls.items }
+    ensures ok { IfOk result (λ t. IsAudited board.now t) }
+    ensures safe { IfOk result (λ t. IsListOfSafe board.now
+        (history_of t.trace.firmware.items t.trace.controller.items)) }
+    ensures fault { IfErr result (λ f. IsFound board.now f) }
+{
+    let trace = Trace {
+        firmware: gathered.firmware,
+        controller: gathered.controller,
+    };
+    match retell(alloc, board, &trace) {
+        Ok(Retold { world, audited }) => Ok(Threaded {
+            firmware: trace.firmware.len() as u64,
+            controller: trace.controller.len() as u64,
+            trace,
+            audited,
+            world,
+            polls: gathered.polls,
+        }),
+        Err(fault) => Err(BenchFault::Audit(fault)),
+    }
 }

@@ -14,14 +14,11 @@ mod calling;
 mod calls;
 mod cores;
 mod counts;
-mod cut;
-mod fault;
 mod gate;
 mod gathering;
 mod link;
 mod outstanding;
 mod platform;
-mod running;
 mod watch;
 mod wire;
 mod worker;
@@ -29,10 +26,8 @@ mod worker;
 pub use calls::request_of;
 pub use cores::run_cores;
 pub use counts::{calls_of, entries_of};
-pub use cut::Cut;
-pub use fault::BenchFault;
 pub use gate::{Gate, OpenGate};
-pub use gathering::{Gathered, Polled};
+pub use gathering::{BenchFault, Cut, Gathered, Polled, Threaded, threads};
 pub use psci_answers::{
     Io, ReplayFault, Replayed, ScriptFault, Sink, Source, Std, law_event_lines, law_safe_scripts,
     replay,
@@ -40,5 +35,4 @@ pub use psci_answers::{
 pub use psci_audit::{AuditFault, CtlEntry, FwEntry, Retold, Trace, World, audit, retell};
 pub use psci_shared::{Board, Core, Sighting, Status};
 pub use psci_storm::{Settled, Storm, StormedWorld, storm, storm_world, write_counts};
-pub use running::{Threaded, threads};
 pub use wire::Wire;

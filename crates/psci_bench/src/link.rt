@@ -2,9 +2,9 @@
 
 ghost use Rattle.std.specs.Prelude.{◌≡◌, ◌<◌, length};
 ghost use Rattle.psci_link.specs.Frame.{IsOf};
-ghost use Rattle.psci_link.specs.declared.frame.Frame.TheVariants as frames;
+ghost use Rattle.psci_link.specs.declared.encoding.Frame.TheVariants as frames;
 
-use crate::cut::Cut;
+use crate::gathering::Cut;
 use crate::outstanding::Outstanding;
 use crate::platform::{Ending, Platform, Returned, fault_of};
 use crate::watch::Watch;

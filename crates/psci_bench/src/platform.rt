@@ -2,7 +2,7 @@
 
 ghost use Rattle.std.specs.Prelude.{◌≡◌};
 
-use crate::cut::Cut;
+use crate::gathering::Cut;
 use crate::watch::Watch;
 use crate::wire::Wire;
 use psci_shared::{Board, Core, CtlPass, Named, SharedController, SharedFirmware};

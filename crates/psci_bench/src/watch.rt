@@ -1,6 +1,6 @@
 //! A pass, and what was seen by polls with it.
 
-use psci_shared::{Named, Pass, Sighting};
+use psci_shared::{BookFull, CallFault, Named, Pass, SharedFirmware, Sighting, Status};
 use std::marker::Model;
 
 /// A pass that is polled with. It keeps what was seen, which the pass itself only knows.
@@ -29,7 +29,6 @@ ghost use Rattle.psci_bench.specs.Watches.{HaveAllSeen, IsKept, IsSeenLast};
 
 use psci_fw::{Outcome, Regs, Start, Taken};
 use psci_messages::Ack;
-use psci_shared::{BookFull, CallFault, SharedFirmware, Status};
 use std::alloc::{AllocFailed, Global};
 use std::sync::Wait;
 

@@ -3,8 +3,8 @@
 ghost use Rattle.std.specs.Prelude.{◌<◌};
 ghost use Rattle.psci_fw.specs.psci_board.Board.{cores};
 
-use crate::cut::Cut;
 use crate::gate::Gate;
+use crate::gathering::Cut;
 use crate::platform::{Ending, Platform, Returned, fault_of};
 use crate::watch::Watch;
 use psci_fw::{Act, Outcome};

@@ -1,7 +1,7 @@
 -- What is no board and no node.
 use Rattle.std.proofs.Common.{◌≡◌, ℕ, true, false, ◌∷◌, [], ◌++◌, refl, arith}
 use Rattle.std.specs.Prelude.{Some, None, map, replicate}
-use Rattle.psci_board.specs.declared.range.AddressRange.{AddressRange}
+use Rattle.psci_board.specs.declared.tree_text.AddressRange.{AddressRange}
 use Rattle.psci_board.specs.Board.{IsBoard, HasNode, core_at, nodes, may_enter, is_width}
 use Rattle.psci_board.proofs.Boards.{at, board, uneven}
 

@@ -1,8 +1,8 @@
 -- Boards of worked examples.
 use Rattle.std.proofs.Common.{List, ◌∷◌, []}
 use Rattle.std.specs.Prelude.{ℕ}
-use Rattle.psci_abi.specs.declared.format.Format.TheVariants.{Original}
-use Rattle.psci_board.specs.declared.node.Node.{Node}
+use Rattle.psci_abi.specs.declared.registers.Format.TheVariants.{Original}
+use Rattle.psci_board.specs.declared.draft.Node.{Node}
 use Rattle.psci_board.specs.Board.{BoardValue}
 
 abbrev pub board : List (List ℕ) → BoardValue

@@ -1,23 +1,24 @@
 -- What is kept of a text decides the verdict on it, and a text without a fault has a board.
 use Rattle.std.specs.Prelude.{IsErrAnd}
-use Rattle.psci_board.proofs.Terms.{◌%◌, ◌&&◌, ◌<◌, ◌==◌, ◌∙◌, ◌≡◌, [], AddressRange}
-use Rattle.psci_board.proofs.Terms.{ap, arith, BadBoot, BadLimit, BadRange, BoardFault, BoardText}
-use Rattle.psci_board.proofs.Terms.{BoardValue, Bool, cond, digits_value, Err, false}
-use Rattle.psci_board.proofs.Terms.{format_or_original, has_bad_range, is_in_some}
-use Rattle.psci_board.proofs.Terms.{IsBoard, length, List, map, MOST_CORES, nat_tests, None, not}
-use Rattle.psci_board.proofs.Terms.{Ok, Option, option_and_then_some, option_map, or_parts}
-use Rattle.psci_board.proofs.Terms.{range_of, refl, Result, same_Some, Some, subst}
-use Rattle.psci_board.proofs.Terms.{summary_board, sym, take, take_all, text_summary, TextSummary}
-use Rattle.psci_board.proofs.Terms.{TooManyCores, TooWide, TreeText, true, Uneven, verdict_or, ℕ}
-use Rattle.psci_board.proofs.FirstFault.{faulty, never_memory, of_board, without_fault}
 use Rattle.psci_board.specs.Draft.{first_fault, unless}
+use Rattle.psci_board.specs.Grammar.{hex_at, literal_at, number_at, spaced_at}
+use Rattle.psci_board.specs.Verdict.{Answers, at_most, board_in, board_of, board_text, draft_in}
+use Rattle.psci_board.specs.Verdict.{list_at, member_at, more_at, range_at, tree_at, verdict}
 use Rattle.psci_board.specs.SummaryVerdict.{draft_of}
-use Rattle.psci_board.specs.Reading.{board_text, list_at, tree_at}
-use Rattle.psci_board.specs.Verdict.{board_of, board_in, draft_in, verdict, Answers}
 use Rattle.psci_board.specs.declared.fault.BoardFault.TheVariants.{Grammar, Memory}
-use Rattle.psci_board.proofs.Kept.{kept_ranges, kept_all_ranges}
-use Rattle.psci_board.proofs.KeptTree.{IsFull, kept_tree, tree_is_kept, uneven_kept, wide_kept}
-use Rattle.psci_board.proofs.KeptTree.{total_kept, levels_kept, is_tree, heights, within}
+use Rattle.psci_board.proofs.Fronts.{faulty, never_memory, of_board, without_fault}
+use Rattle.psci_board.proofs.KeptTree.{heights, is_tree, IsFull, kept_all_ranges, kept_ranges}
+use Rattle.psci_board.proofs.KeptTree.{kept_tree, levels_kept, total_kept, tree_is_kept}
+use Rattle.psci_board.proofs.KeptTree.{uneven_kept, wide_kept, within}
+use Rattle.psci_board.proofs.Terms.{◌%◌, ◌&&◌, ◌<◌, ◌==◌, ◌∙◌, ◌≡◌, [], AddressRange, ap, arith}
+use Rattle.psci_board.proofs.Terms.{BadBoot, BadLimit, BadRange, BoardFault, BoardText}
+use Rattle.psci_board.proofs.Terms.{BoardValue, Bool, cond, digits_value, Err, false}
+use Rattle.psci_board.proofs.Terms.{format_or_original, has_bad_range, is_in_some, IsBoard}
+use Rattle.psci_board.proofs.Terms.{length, List, map, MOST_CORES, nat_tests, None, not, Ok}
+use Rattle.psci_board.proofs.Terms.{Option, option_and_then_some, option_map, or_parts, range_of}
+use Rattle.psci_board.proofs.Terms.{refl, Result, same_Some, Some, subst, summary_board, sym}
+use Rattle.psci_board.proofs.Terms.{take, take_all, text_summary, TextSummary, TooManyCores}
+use Rattle.psci_board.proofs.Terms.{TooWide, TreeText, true, Uneven, verdict_or, ℕ}
 
 -- the board of a text is a board
 pub is_board : (t : BoardText) (v : BoardValue) → verdict t ≡ Ok v → IsBoard v
@@ -158,3 +159,15 @@ no_fault v (Ok b) r e m = absurd m
 no_fault v (Err f) r e m = grind (arith, nat_tests)
 
 pub ruleset saying = (not_of_grammar, good_text, bad_text, no_fault)
+
+-- Readings ----------------------------------------------------------------------------------------
+-- What an example unfolds to read a board text that is written out, and to say what is said of it.
+
+unfoldable pub reading : Unit {0}
+unfolding board_text tree_at member_at list_at more_at at_most spaced_at range_at hex_at number_at
+    literal_at
+reading = tt
+
+unfoldable pub judging : Unit {0}
+unfolding board_of first_fault reading
+judging = tt

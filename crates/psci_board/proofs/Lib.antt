@@ -1,26 +1,14 @@
 pub mod AnswerRows
 pub mod BoardRows
 pub mod Boards
-pub mod Children
-pub mod Decided
-pub mod Fields
-pub mod FirstCores
-pub mod FirstFault
-pub mod Fronts
-pub mod Groups
-pub mod Kept
-pub mod KeptTree
-pub mod Levels
-mod LimitRows
-pub mod More
-pub mod Named
-pub mod Parents
 pub mod Paths
+pub mod Decided
+pub mod More
+pub mod Fronts
+pub mod KeptTree
+mod LimitRows
+pub mod Named
 pub mod Ranges
-pub mod Readers
-pub mod Readings
-pub mod Spans
-pub mod Spelled
 pub mod SpelledParts
 pub mod SpelledText
 pub mod SpelledTree

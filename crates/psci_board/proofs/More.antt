@@ -1,11 +1,243 @@
 -- Items that follow one another: reading them one at a time.
 use Rattle.std.specs.Prelude.{IfSome}
-use Rattle.psci_board.proofs.Terms.{◌<◌, ◌∙◌, ◌∷◌, ◌≡◌, ◌≤◌, [], ap, arith, Bool, cond, cond_some}
-use Rattle.psci_board.proofs.Terms.{eqb, false, length, length-drop, List, nat_tests, None, Option}
-use Rattle.psci_board.proofs.Terms.{option_and_then, option_and_then_some, option_map, refl, Some}
-use Rattle.psci_board.proofs.Terms.{subst, suc, then_more, true, zero, ℕ}
-use Rattle.psci_board.specs.ReadWords.{literal_at, spaced_at, number_at}
-use Rattle.psci_board.specs.Reading.{at_most, more_at, list_at, member_at, bytes_after}
+use Rattle.std.proofs.Common.{◌==◌, drop-cons}
+use Rattle.std.proofs.lemmas.Bool.{eqb-true}
+use Rattle.psci_board.specs.Level.{IsIndexed}
+use Rattle.psci_board.specs.Grammar.{literal_at, number_at, spaced_at}
+use Rattle.psci_board.specs.Verdict.{at_most, bytes_after, list_at, member_at, more_at}
+use Rattle.psci_board.proofs.Ranges.{found, found_first, found_none, none_passes}
+use Rattle.psci_board.proofs.Terms.{◌%◌, ◌*◌, ◌++◌, ◌+◌, ◌-◌, ◌/◌, ◌<◌, ◌∙◌, ◌∷◌, ◌≡◌, ◌≤◌, []}
+use Rattle.psci_board.proofs.Terms.{add-one, address_up, AllPass, ap, append_assoc, arith, Bool}
+use Rattle.psci_board.proofs.Terms.{cases_lt, child_in, common_steps, cond, cond_some, drop}
+use Rattle.psci_board.proofs.Terms.{eq-eqb, eqb, false, get_or, get_or_append_left}
+use Rattle.psci_board.proofs.Terms.{get_or_default, get_or_past, get_or_push, group_of, index_in}
+use Rattle.psci_board.proofs.Terms.{index_named, inl, inr, is_width, IsTree, length, length-drop}
+use Rattle.psci_board.proofs.Terms.{length_push, List, ltb, nat_tests, None, Option}
+use Rattle.psci_board.proofs.Terms.{option_and_then, option_and_then_some, option_map, refl}
+use Rattle.psci_board.proofs.Terms.{size_below, Some, subst, suc, sum, sum_by-cons, sym, take}
+use Rattle.psci_board.proofs.Terms.{then_more, true, zero, ℕ}
+
+-- The levels of a tree, from one on ---------------------------------------------------------------
+
+-- what stands above a level is a tree
+pub IsTree-drop : (n : ℕ) (ls : List (List ℕ)) → IsTree ls → IsTree (drop n ls)
+IsTree-drop zero ls t = t
+IsTree-drop (suc n) [] t = t
+IsTree-drop (suc n) (w ∷ ws) t = IsTree-drop n ws t.3
+
+-- a level, and those above it
+pub drop_level : (ls : List (List ℕ)) (k : ℕ) (w : List ℕ) → k < length ls → w ≡ get_or ls k w
+    → drop k ls ≡ w ∷ drop (k + 1) ls
+drop_level ls k w h e = rw (add-one, drop-cons ls k w) (rw (← e) refl)
+
+pub record Level (ls : List (List ℕ)) (l : ℕ) : Type 0 where
+  pub size : size_below (drop l ls) ≡ sum (get_or ls l [])
+  pub above : size_below (drop (suc l) ls) ≡ length (get_or ls l [])
+  pub width : AllPass is_width (get_or ls l [])
+
+pub level : (ls : List (List ℕ)) (l : ℕ) → IsTree ls → l < length ls → Level ls l
+level ls l t h =
+    let w = get_or ls l [] in
+    let e = drop_level ls l w h (get_or_default ls l [] w h) in
+    let tree = rw e at (IsTree-drop l ls t) in
+    record { size = rw e refl; above = rw (← add-one) (sym tree.0); width = tree.2 }
+
+-- Places counted through groups -------------------------------------------------------------------
+
+pub sum-cons : (n : ℕ) (ns : List ℕ) → sum (n ∷ ns) ≡ n + sum ns
+sum-cons n ns = sum_by-cons (λ x. x) n ns
+
+-- i is the p-th of the g-th group
+pub record Stands (w : List ℕ) (i g p : ℕ) : Type 0 where
+  pub group : group_of w i ≡ g
+  pub place : index_in w i ≡ p
+  pub inside : i < sum w
+
+first_stands : (n p : ℕ) (ns : List ℕ) → p < n → Stands (n ∷ ns) p 0 p
+first_stands n p ns h = grind (arith, nat_tests, sum-cons)
+
+later_stands : (n : ℕ) (ns : List ℕ) (i j g p : ℕ) → i ≡ n + j → Stands ns j g p
+    → Stands (n ∷ ns) i (suc g) p
+later_stands n ns i j g p e h = grind (arith, nat_tests, ltb, sum-cons)
+
+pub stands_at : (w : List ℕ) (g p i : ℕ) → g < length w → p < get_or w g 0
+    → i ≡ sum (take g w) + p → Stands w i g p
+stands_at [] g p i a b e = absurd (omega arith)
+stands_at (n ∷ ns) zero p i a b e = grind (arith, common_steps, first_stands)
+stands_at (n ∷ ns) (suc g) p i a b e =
+    let j = sum (take g ns) + p in
+    later_stands n ns i j g p (omega (arith, sum-cons n (take g ns)))
+    (stands_at ns g p j (omega arith) b refl)
+
+-- each i below the sum stands somewhere
+pub record Counted (w : List ℕ) (i : ℕ) : Type 0 where
+  pub group : group_of w i < length w
+  pub place : index_in w i < get_or w (group_of w i) 0
+  pub whole : sum (take (group_of w i) w) + index_in w i ≡ i
+
+counted_by : (n : ℕ) (ns : List ℕ) (i : ℕ) (t : Bool) → ltb i n ≡ t → i < n + sum ns
+    → (i - n < sum ns → Counted ns (i - n)) → Counted (n ∷ ns) i
+counted_by n ns i true e h later = grind (arith, nat_tests)
+counted_by n ns i false e h later = grind (arith, common_steps, sum-cons, add-one)
+
+pub counted : (w : List ℕ) (i : ℕ) → i < sum w → Counted w i
+counted [] i h = absurd (omega arith)
+counted (n ∷ ns) i h = grind (arith, nat_tests, counted_by, ltb, sum-cons, counted ns)
+
+pub in_group : (w : List ℕ) (p q : ℕ) → sum (take p w) ≤ q → q < sum (take p w) + get_or w p 0
+    → group_of w q ≡ p
+in_group w p q a b = elim (cases_lt p (length w)) [
+  | inl m ↦ (stands_at w p (q - sum (take p w)) q m (omega arith) (omega arith)).group
+  | inr m ↦ let none : get_or w p 0 ≡ 0 = get_or_past w p 0 m in absurd (omega arith)
+]
+
+pub group_inside : (w : List ℕ) (p k : ℕ) → k < get_or w p 0 → sum (take p w) + k < sum w
+group_inside w p k h = grind (arith, common_steps, cases_lt, stands_at, get_or_past)
+
+pub group_of-ordered : (w : List ℕ) (i j : ℕ) → i ≤ j → group_of w i ≤ group_of w j
+group_of-ordered [] i j h = omega arith
+group_of-ordered (n ∷ ns) i j h = grind (arith, nat_tests, ltb, group_of-ordered ns)
+
+-- Numbers of children -----------------------------------------------------------------------------
+
+pub record Width (n : ℕ) : Type 0 where
+  pub some : 0 < n
+  pub few : n ≤ 16
+
+pub width : (w : List ℕ) (g : ℕ) → AllPass is_width w → g < length w → Width (get_or w g 0)
+width w g h l = grind (arith, nat_tests)
+
+pub few_at : (w : List ℕ) (g : ℕ) → AllPass is_width w → get_or w g 0 ≤ 16
+few_at w g h = grind (arith, nat_tests, width, get_or_past)
+
+-- one more child of the g-th node, in the list of the parents of all children
+pub one_more_child : (w ps qs : List ℕ) (g k : ℕ) → g < length w → k < get_or w g 0
+    → length ps ≡ sum (take g w) + k
+    → ((i : ℕ) → i < length ps → get_or ps i 0 ≡ group_of w i) → qs ≡ ps ++ g ∷ []
+    → (i : ℕ) → i < length qs → get_or qs i 0 ≡ group_of w i
+one_more_child w ps qs g k h l n each e i j = elim (cases_lt i (length ps)) [
+  | inl m ↦ rw (e, get_or_append_left ps (g ∷ []) 0 i m) (each i m)
+  | inr m ↦
+      let long : i < length (ps ++ g ∷ []) = rw e at j in
+      let last : length ps ≡ i = omega (arith, length_push ps g) in
+      rw (e, get_or_push ps g 0 i last) (sym (stands_at w g k i h l (omega arith)).group)
+]
+
+-- Numbers among siblings --------------------------------------------------------------------------
+
+-- the i-th child, whose parent is the p-th node, begins at q among its siblings
+pub record Numbered (w first : List ℕ) (i p : ℕ) : Type 0 where
+  pub inside : p < length first
+  pub starts : (q : ℕ) → q ≡ get_or first p q → q ≤ i
+  pub number : (q : ℕ) → q ≡ get_or first p q → i - q ≡ index_in w i
+
+pub numbered : (w counts first parent : List ℕ) (i p : ℕ) → counts ≡ w
+    → IsIndexed counts first parent → i < sum w → p ≡ group_of w i → Numbered w first i p
+numbered w counts first parent i p same indexed h e =
+    grind (arith, nat_tests, counted, get_or_default)
+
+pub ruleset rising = (nat_tests, drop_level, counted, append_assoc)
+
+-- The affinity fields of a place, and the place that a word names ---------------------------------
+
+pub record Digit (p a word : ℕ) : Type 0 where
+  pub low : p ≡ word % 256
+  pub high : a ≡ word / 256
+
+digit : (p a word : ℕ) → p < 256 → p + 256 * a ≡ word → Digit p a word
+digit p a word h e = record { low = omega arith; high = omega arith }
+
+-- the group of a place is one of the nodes above, and its place there fits a field
+pub record Fits (w : List ℕ) (ws : List (List ℕ)) (k : ℕ) : Type 0 where
+  pub group : group_of w k < size_below ws
+  pub place : index_in w k < 256
+
+pub fits : (w : List ℕ) (ws : List (List ℕ)) (k : ℕ) → IsTree (w ∷ ws) → k < sum w → Fits w ws k
+fits w ws k t h =
+    let c = counted w k h in
+    let few = few_at w (group_of w k) t.2 in
+    record { group = omega (arith, c.group, t.0); place = omega (arith, c.place, few) }
+
+-- the fields of a place, one level up
+pub fields : (w : List ℕ) (ws : List (List ℕ)) (k word : ℕ) → IsTree (w ∷ ws) → k < sum w
+    → address_up (w ∷ ws) k ≡ word → Digit (index_in w k) (address_up ws (group_of w k)) word
+fields w ws k word t h e = digit _ _ word (fits w ws k t h).place e
+
+-- different places have different fields
+pub address_up-injective : (ws : List (List ℕ)) (i j : ℕ) → IsTree ws → i < size_below ws
+    → j < size_below ws → address_up ws i ≡ address_up ws j → i ≡ j
+address_up-injective [] i j t h k e = omega arith
+address_up-injective (w ∷ ws) i j t h k e =
+    grind (arith, nat_tests, counted, fields, fits, address_up-injective ws)
+
+-- Names -------------------------------------------------------------------------------------------
+
+abbrev has_word : List (List ℕ) → ℕ → ℕ → Bool
+has_word ws word i = address_up ws i == word
+
+pub named_at : (ws : List (List ℕ)) (word i : ℕ) → IsTree ws → i < size_below ws
+    → address_up ws i ≡ word → index_named ws word ≡ Some i
+named_at ws word i t h e =
+    found_first (has_word ws word) (size_below ws) 0 i (omega arith) (omega arith) (eq-eqb _ _ e)
+    (λ j l m. other j m (eqb (address_up ws j) word) refl)
+  where
+    other : (j : ℕ) → j < i → (b : Bool) → eqb (address_up ws j) word ≡ b
+        → eqb (address_up ws j) word ≡ false
+    other j m true q =
+        let alike : address_up ws j ≡ address_up ws i = cc (eqb-true (address_up ws j) word q) in
+        absurd (omega (arith, address_up-injective ws j i t (omega arith) h alike))
+    other j m false q = q
+
+pub record Names (ws : List (List ℕ)) (word i : ℕ) : Type 0 where
+  pub inside : i < size_below ws
+  pub address : address_up ws i ≡ word
+
+pub named_is : (ws : List (List ℕ)) (word i : ℕ) → index_named ws word ≡ Some i → Names ws word i
+named_is ws word i e = grind (arith, nat_tests, found, has_word, eqb-true)
+
+pub named_none : (ws : List (List ℕ)) (word i : ℕ) → index_named ws word ≡ None → i < size_below ws
+    → address_up ws i ≡ word → ⊥
+named_none ws word i e h a =
+    none_passes (has_word ws word) (size_below ws) 0 i e (omega arith) (omega arith) (eq-eqb _ _ a)
+
+-- none, where each place has another word
+pub none_named : (ws : List (List ℕ)) (word : ℕ)
+    → ((i : ℕ) → i < size_below ws → address_up ws i ≡ word → ⊥) → index_named ws word ≡ None
+none_named ws word other = grind (arith, nat_tests, found_none, has_word, eqb, eqb-true)
+
+-- One level up, a word without its lowest field ------------------------------------------------
+
+pub named_below_none : (w : List ℕ) (ws : List (List ℕ)) (word : ℕ) → IsTree (w ∷ ws)
+    → index_named ws (word / 256) ≡ None → index_named (w ∷ ws) word ≡ None
+named_below_none w ws word t e = none_named (w ∷ ws) word (λ i h a.
+    let f = fields w ws i word t h a in
+    named_none ws (word / 256) (group_of w i) e (fits w ws i t h).group f.high)
+
+child_by : (w : List ℕ) (ws : List (List ℕ)) (g word : ℕ) (b : Bool) → IsTree (w ∷ ws)
+    → index_named ws (word / 256) ≡ Some g → ltb (word % 256) (get_or w g 0) ≡ b
+    → index_named (w ∷ ws) word ≡ cond b (Some (sum (take g w) + word % 256)) None
+child_by w ws g word true t e b =
+    let n = named_is ws (word / 256) g e in
+    let i = sum (take g w) + word % 256 in
+    let inside : word % 256 < get_or w g 0 = grind (arith, nat_tests) in
+    let s = stands_at w g (word % 256) i (omega (arith, n.inside, t.0)) inside refl in
+    named_at (w ∷ ws) word i t s.inside (rw (s.place, s.group, n.address) (omega arith))
+child_by w ws g word false t e b = none_named (w ∷ ws) word (λ i h a.
+    let past : get_or w g 0 ≤ word % 256 = grind (arith, nat_tests) in
+    let c = counted w i h in
+    let f = fields w ws i word t h a in
+    let n = named_is ws (word / 256) g e in
+    let same : group_of w i ≡ g =
+    address_up-injective ws (group_of w i) g t.3 (fits w ws i t h).group n.inside
+    (cc (f.high, n.address)) in
+    let small : index_in w i < get_or w g 0 = rw same at c.place in
+    absurd (omega (arith, small, f.low)))
+
+pub named_below : (w : List ℕ) (ws : List (List ℕ)) (g word : ℕ) → IsTree (w ∷ ws)
+    → index_named ws (word / 256) ≡ Some g → index_named (w ∷ ws) word ≡ child_in w g (word % 256)
+named_below w ws g word t e = child_by w ws g word (ltb (word % 256) (get_or w g 0)) t e refl
+
+-- More --------------------------------------------------------------------------------------------
 
 -- what is left is no longer than the text
 abbrev pub Shortens : {A : Type 0} → (List ℕ → Option (A × List ℕ)) → Type 0

@@ -2,26 +2,24 @@
 use Rattle.std.proofs.Math.Nat.{one-le-pow, pow-suc}
 use Rattle.std.proofs.Math.Seq.{drop-cons}
 use Rattle.std.proofs.lemmas.List.{drop_all}
-use Rattle.psci_board.proofs.Terms.{◌%◌, ◌*◌, ◌+◌, ◌-◌, ◌/◌, ◌<◌, ◌^◌, ◌∙◌, ◌∷◌, ◌≡◌, ◌≤◌, []}
-use Rattle.psci_board.proofs.Terms.{add-one, address_up, ap, arith, BoardValue, cases_lt, child}
-use Rattle.psci_board.proofs.Terms.{child_in, children, children_at, cond_some, cores}
-use Rattle.psci_board.proofs.Terms.{div-div-eq-div-mul, div-one, drop, drop-length, first_child}
-use Rattle.psci_board.proofs.Terms.{get_or, get_or_default, get_or_past, group_of, HasNode, height}
-use Rattle.psci_board.proofs.Terms.{index_in, index_named, inl, inr, IsBoard, IsTree, length, List}
-use Rattle.psci_board.proofs.Terms.{ltb, nat_tests, Node, nodes, None, none-some, Option}
-use Rattle.psci_board.proofs.Terms.{option_map, place_above, pow-add, refl, same_Some, size_below}
-use Rattle.psci_board.proofs.Terms.{Some, sub-one, subst, suc, sum, sym, take, to_le_bytes, w64}
-use Rattle.psci_board.proofs.Terms.{zero, ℕ}
-use Rattle.psci_board.specs.declared.node.Core.{Core}
-use Rattle.psci_board.specs.Board.{up, address, node_of, core_of}
-use Rattle.psci_board.specs.Laws.{WordLaws}
-use Rattle.psci_board.proofs.Fields.{fits, fields, named_at, named_is, named_below}
-use Rattle.psci_board.proofs.Fields.{named_below_none, none_named}
-use Rattle.psci_board.proofs.Children.{child_inside}
-use Rattle.psci_board.proofs.Groups.{stands_at, counted}
-use Rattle.psci_board.proofs.Levels.{IsTree-drop, drop_level, level}
-use Rattle.psci_board.proofs.Paths.{inside, some_core}
-use Rattle.psci_board.proofs.Readers.{on, node_of-above, node_of-within}
+use Rattle.psci_board.specs.Board.{address, child_number, core_of, node_of, parent, ParentLaws}
+use Rattle.psci_board.specs.Board.{up, WordLaws}
+use Rattle.psci_board.specs.declared.draft.Core.{Core}
+use Rattle.psci_board.proofs.Paths.{child_inside, counts, inside, place_above-suc, some_core}
+use Rattle.psci_board.proofs.More.{counted, drop_level, fields, fits, IsTree-drop, level}
+use Rattle.psci_board.proofs.More.{named_at, named_below, named_below_none, named_is, none_named}
+use Rattle.psci_board.proofs.More.{Stands, stands_at}
+use Rattle.psci_board.proofs.Ranges.{node_of-above, node_of-within, on}
+use Rattle.psci_board.proofs.Terms.{◌%◌, ◌&&◌, ◌*◌, ◌+◌, ◌-◌, ◌/◌, ◌<◌, ◌^◌, ◌∙◌, ◌∷◌, ◌≡◌, ◌≤◌}
+use Rattle.psci_board.proofs.Terms.{[], add-one, address_up, ap, arith, BoardValue, Bool}
+use Rattle.psci_board.proofs.Terms.{cases_lt, child, child_in, children, children_at, cond_some}
+use Rattle.psci_board.proofs.Terms.{cores, div-div-eq-div-mul, div-one, drop, drop-length}
+use Rattle.psci_board.proofs.Terms.{first_child, get_or, get_or_default, get_or_past, group_of}
+use Rattle.psci_board.proofs.Terms.{HasNode, height, index_in, index_named, inl, inr, IsBoard}
+use Rattle.psci_board.proofs.Terms.{IsTree, length, List, ltb, nat_tests, Node, nodes, None}
+use Rattle.psci_board.proofs.Terms.{none-some, Option, option_map, place_above, pow-add, refl}
+use Rattle.psci_board.proofs.Terms.{same_Some, size_below, Some, sub-one, subst, suc, sum, sym}
+use Rattle.psci_board.proofs.Terms.{take, to_le_bytes, true, w64, zero, ℕ}
 
 record NodeOf (b : BoardValue) (word l : ℕ) (n : Node) : Type 0 where
   level : n.level ≡ l
@@ -274,3 +272,96 @@ none_highest levels word low k t l e h =
     (ap (λ ls. index_named ls (word / 2 ^ (8 * k))) cut
     ∙ named_past (get_or levels k []) (word / 2 ^ (8 * k))
     (subst IsTree cut (IsTree-drop k levels t)) h)
+
+-- The parent of a node, and its number among the children of that parent --------------------------
+
+-- a node of the board that is not the system
+abbrev has_parent : BoardValue → Node → Bool
+has_parent b n = ltb n.level (height b) && ltb n.place (nodes b n.level)
+
+record Below (b : BoardValue) (n : Node) : Type 0 where
+  level : n.level < height b
+  place : n.place < nodes b n.level
+
+yes : (b : BoardValue) (n : Node) → Below b n → has_parent b n ≡ true
+yes b n h = let l = h.level in let p = h.place in grind (arith, nat_tests)
+
+below : (b : BoardValue) (n : Node) → has_parent b n ≡ true → Below b n
+below b n h = record { level = grind (arith, nat_tests); place = grind (arith, nat_tests) }
+
+-- From a node to a child ----------------------------------------------------------------------
+
+-- m is the k-th child of n
+record Step (b : BoardValue) (n m : Node) (k : ℕ) : Type 0 where
+  level : m.level + 1 ≡ n.level
+  below : Below b m
+  stands : Stands (counts b m.level) m.place n.place k
+
+step_at : (b : BoardValue) → IsBoard b → (n m : Node) (k level : ℕ) → n.level ≡ level
+    → k < children_at b level n.place
+    → record { level = level - 1; place = first_child b level n.place + k } ≡ m → Step b n m k
+step_at b h n m k zero e i d = absurd (omega arith)
+step_at b h n m k (suc l) e i d =
+    let here = child_inside b h l n.place k i in
+    let short : n.place < length (counts b l) = elim (cases_lt n.place (length (counts b l))) [
+      | inl x ↦ x
+      | inr x ↦ absurd (let none : get_or (counts b l) n.place 0 ≡ 0 =
+          get_or_past (counts b l) n.place 0 x in omega arith)
+    ] in
+    rw (← d) (record {
+      level = omega arith;
+      below = record { level = omega (arith, here.0); place = rw sub-one here.1 };
+      stands = rw sub-one (stands_at (counts b l) n.place k (first_child b (suc l) n.place + k)
+          short i refl);
+    })
+
+step : (b : BoardValue) → IsBoard b → (n m : Node) (k : ℕ) → child b n k ≡ Some m → Step b n m k
+step b h n m k e =
+    let c = cond_some (ltb k (children b n)) _ m e in
+    step_at b h n m k n.level refl (grind (arith, nat_tests)) c.1
+
+parent_of_child : (b : BoardValue) → IsBoard b → (n m : Node) (k : ℕ) → child b n k ≡ Some m
+    → parent b m ≡ Some n
+parent_of_child b h n m k e = grind (arith, nat_tests, step, yes, below, level)
+
+number_of_child : (b : BoardValue) → IsBoard b → (n m : Node) (k : ℕ) → child b n k ≡ Some m
+    → child_number b m ≡ Some k
+number_of_child b h n m k e = grind (arith, nat_tests, step, yes, below)
+
+-- From a node to its parent -------------------------------------------------------------------
+
+child_at_parent : (b : BoardValue) → IsBoard b → (l q p k level : ℕ) → suc l ≡ level
+    → group_of (counts b l) q ≡ p → index_in (counts b l) q ≡ k → l < height b → q < nodes b l
+    → child b (record { level = level; place = p }) k ≡ Some (record { level = l; place = q })
+child_at_parent b h l q p k high e f g i j =
+    grind (arith, nat_tests, level, counted, counts, sub-one)
+
+child_of_parent : (b : BoardValue) → IsBoard b → (n m : Node) (k : ℕ) → parent b m ≡ Some n
+    → child_number b m ≡ Some k → child b n k ≡ Some m
+child_of_parent b h n m k e d =
+    grind (arith, nat_tests, cond_some, below, level, counts, child_at_parent)
+
+parent_node : (b : BoardValue) → IsBoard b → (n m : Node) → parent b m ≡ Some n → HasNode b n
+parent_node b h n m e =
+    grind (arith, nat_tests, cond_some, has_parent, below, level, counted, counts, add-one)
+
+pub parent_laws : (b : BoardValue) → IsBoard b → ParentLaws b
+unfolding up
+parent_laws b h = record {
+  of_child = parent_of_child b h;
+  number = number_of_child b h;
+  child = child_of_parent b h;
+  numbered = λ n m e.
+      let c = cond_some (has_parent b m) _ n e in
+      (index_in (counts b m.level) m.place, rw c.0 refl);
+  node = parent_node b h;
+  some_parent = λ m i l. (
+    record { level = m.level + 1; place = group_of (counts b m.level) m.place },
+    rw (yes b m (record { level = l; place = i.place })) refl,
+  );
+  path = λ c l k m.
+      let at = inside b.levels l c h.tree k (omega arith) in
+      let node : Node = record { level = l; place = place_above b.levels l c } in
+      rw (yes b node (record { level = m; place = at }), add-one, place_above-suc b.levels l c m)
+      refl;
+}

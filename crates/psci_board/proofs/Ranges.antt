@@ -1,12 +1,17 @@
 -- Ranges of numbers: which part a test keeps, and a range within a range.
-use Rattle.std.proofs.Common.{add-zero, ◌&&◌, leb}
-use Rattle.std.proofs.lemmas.List.Elements.{filter-append}
 use Rattle.std.specs.List.{find}
-use Rattle.psci_board.proofs.Terms.{◌++◌, ◌+◌, ◌-◌, ◌<◌, ◌==◌, ◌∙◌, ◌∷◌, ◌≡◌, ◌≤◌, [], ap}
-use Rattle.psci_board.proofs.Terms.{append-nil, arith, Bool, drop, false, filter, flat_map}
-use Rattle.psci_board.proofs.Terms.{flat_map-append, List, ltb, nat_tests, None, none-some, Option}
-use Rattle.psci_board.proofs.Terms.{range_with_len, refl, same_Some, Some, suc, sym, take, true}
-use Rattle.psci_board.proofs.Terms.{zero, zero-add, ℕ}
+use Rattle.std.proofs.Common.{◌&&◌, add-zero, leb}
+use Rattle.std.proofs.lemmas.List.Elements.{filter-append}
+use Rattle.std.proofs.lemmas.Option.{unwrap_or-slice_get}
+use Rattle.psci_board.specs.Board.{level_at, node_of}
+use Rattle.psci_board.proofs.Terms.{◌*◌, ◌++◌, ◌+◌, ◌-◌, ◌/◌, ◌<◌, ◌==◌, ◌^◌, ◌∙◌, ◌∷◌, ◌≡◌, ◌≤◌}
+use Rattle.psci_board.proofs.Terms.{[], ap, append-nil, arith, BoardValue, Bool, child, child_in}
+use Rattle.psci_board.proofs.Terms.{children, drop, false, filter, first_child, flat_map}
+use Rattle.psci_board.proofs.Terms.{flat_map-append, get_or, get_or_from_slice_get, height}
+use Rattle.psci_board.proofs.Terms.{index_named, List, ltb, nat_tests, Node, None, none-some}
+use Rattle.psci_board.proofs.Terms.{Option, option_map, range_with_len, refl, same_Some}
+use Rattle.psci_board.proofs.Terms.{slice_get, Some, suc, sum, sym, take, true, zero, zero-add}
+use Rattle.psci_board.proofs.Terms.{ℕ}
 
 range_split : (a m n : ℕ)
     → range_with_len a (m + n) ≡ range_with_len a m ++ range_with_len (a + m) n
@@ -169,3 +174,49 @@ place_by_place f ordered a (suc n) m =
     let whole = parts _ _ _ (one_more_part f ordered a n) m 0 in
     rw (whole, place_by_place f ordered a n m)
     (sym (flat_map-more (λ k. kept (λ x. f x == a + k) m 0) n))
+
+-- What the readers of a board are by its levels ---------------------------------------------------
+
+past : (ls : List (List ℕ)) (i : ℕ) → slice_get ls i ≡ None → get_or ls i [] ≡ []
+past ls i e = rw (← unwrap_or-slice_get ls i []) (rw e refl)
+
+pub children-none : (b : BoardValue) (n : Node) → level_at b n.level ≡ None → children b n ≡ 0
+children-none b n e = grind (arith, nat_tests, past)
+
+children-some : (b : BoardValue) (n : Node) (w : List ℕ) → level_at b n.level ≡ Some w
+    → children b n ≡ get_or w n.place 0
+children-some b n w e = grind (arith, nat_tests, get_or_from_slice_get)
+
+first_child-some : (b : BoardValue) (n : Node) (w : List ℕ) → level_at b n.level ≡ Some w
+    → first_child b n.level n.place ≡ sum (take n.place w)
+first_child-some b n w e = grind (arith, nat_tests, get_or_from_slice_get)
+
+pub child-none : (b : BoardValue) (n : Node) (k : ℕ) → level_at b n.level ≡ None
+    → child b n k ≡ None
+child-none b n k e = grind (arith, nat_tests, children-none)
+
+abbrev pub on : ℕ → ℕ → Node
+on level place = record { level = level; place = place }
+
+pub child-some : (b : BoardValue) (n : Node) (k : ℕ) (w : List ℕ) → level_at b n.level ≡ Some w
+    → child b n k ≡ option_map (on (n.level - 1)) (child_in w n.place k)
+child-some b n k w e = grind (arith, nat_tests, children-some, first_child-some, ltb, on)
+
+pub node_of-above : (b : BoardValue) (word level : ℕ) → height b < level
+    → node_of b word level ≡ None
+unfolding node_of
+node_of-above b word level h = grind (arith, nat_tests)
+
+pub node_of-within : (b : BoardValue) (word level : ℕ) → level ≤ height b → node_of b word level
+    ≡ option_map (on level) (index_named (drop level b.levels) (word / 2 ^ (8 * level)))
+unfolding node_of
+node_of-within b word level h = grind (arith, nat_tests)
+
+pub ruleset reading = (
+  nat_tests,
+  children-none,
+  child-none,
+  child-some,
+  node_of-above,
+  node_of-within,
+)

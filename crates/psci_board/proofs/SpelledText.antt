@@ -5,12 +5,11 @@ use Rattle.psci_board.proofs.Terms.{format_part, hex, IsHex, IsNumber, IsRange, 
 use Rattle.psci_board.proofs.Terms.{more_at, nat_tests, None, number_at, Option}
 use Rattle.psci_board.proofs.Terms.{option_and_then_some, range, recursion_from_All, refl}
 use Rattle.psci_board.proofs.Terms.{same_Some, Some, spaced, subst, tree, tree_at, TreeText, ℕ}
-use Rattle.psci_board.specs.Grammar.{IsBoardText, spelling}
-use Rattle.psci_board.specs.ReadWords.{literal_at, spaced_at, hex_at}
-use Rattle.psci_board.specs.Reading.{range_at, board_text}
-use Rattle.psci_board.proofs.Spelled.{first_again, spaced_takes, more_again, more_takes, list_of}
-use Rattle.psci_board.proofs.SpelledParts.{literal_takes, number_reads, hex_reads, ends_number}
-use Rattle.psci_board.proofs.SpelledParts.{format_again, format_takes, range_reads}
+use Rattle.psci_board.specs.Grammar.{hex_at, IsBoardText, literal_at, spaced_at, spelling}
+use Rattle.psci_board.specs.Verdict.{range_at, board_text}
+use Rattle.psci_board.proofs.SpelledParts.{ends_number, first_again, format_again, format_takes}
+use Rattle.psci_board.proofs.SpelledParts.{hex_reads, list_of, literal_takes, more_again}
+use Rattle.psci_board.proofs.SpelledParts.{more_takes, number_reads, range_reads, spaced_takes}
 use Rattle.psci_board.proofs.SpelledTree.{tree_reads}
 
 abbrev IsRead : BoardText → Type 0

@@ -4,12 +4,11 @@ use Rattle.psci_board.proofs.Terms.{Cluster, common_steps, cond, decimal, decima
 use Rattle.psci_board.proofs.Terms.{decimal_nonempty, digit_value, Ends, eqb, false, Group}
 use Rattle.psci_board.proofs.Terms.{is_ascii_digit, IsListOf, IsNumber, IsTreeText, length, List}
 use Rattle.psci_board.proofs.Terms.{Member, Members, nat_tests, number_at, One, Option}
-use Rattle.psci_board.proofs.Terms.{option_and_then, option_and_then_some, Reads, refl, same_Some}
-use Rattle.psci_board.proofs.Terms.{Some, starts_list, subst, tree, TreeText, true, ℕ}
+use Rattle.psci_board.proofs.Terms.{option_and_then, option_and_then_some, Reads, refl}
+use Rattle.psci_board.proofs.Terms.{same_Some, Some, starts_list, subst, tree, TreeText, true, ℕ}
 use Rattle.psci_board.specs.Grammar.{IsMember, member}
-use Rattle.psci_board.specs.Reading.{list_at, member_at, tree_at}
-use Rattle.psci_board.proofs.Spelled.{list_again, list_takes}
-use Rattle.psci_board.proofs.SpelledParts.{number_reads}
+use Rattle.psci_board.specs.Verdict.{list_at, member_at, tree_at}
+use Rattle.psci_board.proofs.SpelledParts.{list_again, list_takes, number_reads}
 
 -- A number, or a list of items. Both members of the outer list and trees are read so.
 number_or : {A B : Type 0} → (ℕ → B) → (List A → B) → (List ℕ → Option (A × List ℕ)) → List ℕ

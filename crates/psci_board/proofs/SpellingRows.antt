@@ -3,7 +3,7 @@ use Rattle.std.proofs.Common.{[], refl, arith, rules}
 use Rattle.std.proofs.lemmas.List.Sums.{AllPass-from_list_all}
 use Rattle.std.specs.Prelude.{codes}
 use Rattle.std.specs.Char.{is_ascii_digit}
-use Rattle.psci_board.specs.Spelling.{Ends, IsHex, IsNumber}
+use Rattle.psci_board.specs.Grammar.{Ends, IsHex, IsNumber}
 
 -- the largest number, and the one after it
 largest_number : IsNumber 18446744073709551615

@@ -31,27 +31,24 @@ pub use Rattle.psci_board.specs.Board.{first_child, first_core, group_of, HasNod
 pub use Rattle.psci_board.specs.Board.{is_in_some, is_width, IsBoard, IsTree, nodes, nodes_up}
 pub use Rattle.psci_board.specs.Board.{place_above, size_below}
 pub use Rattle.psci_board.specs.Draft.{has_bad_range, is_limit}
-pub use Rattle.psci_board.specs.Grammar.{BoardText, bracketed, format_part, IsListOf, IsRange}
-pub use Rattle.psci_board.specs.Grammar.{IsTreeText, Member, range, spaced, tree, TreeText}
+pub use Rattle.psci_board.specs.Grammar.{BoardText, bracketed, Ends, format_part, hex, IsHex}
+pub use Rattle.psci_board.specs.Grammar.{IsListOf, IsNumber, IsRange, IsTreeText, literal_at}
+pub use Rattle.psci_board.specs.Grammar.{Member, number_at, range, Reads, spaced, tree, TreeText}
 pub use Rattle.psci_board.specs.Grammar.Member.{Cluster, Group}
 pub use Rattle.psci_board.specs.Grammar.TreeText.{Members, One}
 pub use Rattle.psci_board.specs.Level.{child_in, index_named}
-pub use Rattle.psci_board.specs.ReadWords.{literal_at, number_at}
-pub use Rattle.psci_board.specs.Reading.{format_at, member_at, more_at, range_at, starts_list}
-pub use Rattle.psci_board.specs.Reading.{then_more, tree_at}
-pub use Rattle.psci_board.specs.Spelling.{Ends, hex, IsHex, IsNumber, Reads}
+pub use Rattle.psci_board.specs.Verdict.{clusters, format_at, format_or_original, is_group}
+pub use Rattle.psci_board.specs.Verdict.{is_out_of_width, member_at, more_at, numbers_in, range_at}
+pub use Rattle.psci_board.specs.Verdict.{range_of, starts_list, then_more, tree_at, verdict_or}
 pub use Rattle.psci_board.specs.Summary.{no_ranges, tree_summary, TreeSummaryValue, value_and_rest}
 pub use Rattle.psci_board.specs.Summary.{with_ranges}
 pub use Rattle.psci_board.specs.SummaryVerdict.{summary_board, text_summary}
-pub use Rattle.psci_board.specs.Verdict.{clusters, format_or_original, is_group}
-pub use Rattle.psci_board.specs.Verdict.{is_out_of_width, numbers_in, range_of}
-pub use Rattle.psci_board.specs.Verdict.{verdict_or}
 pub use Rattle.psci_board.specs.declared.fault.BoardFault.{BoardFault}
 pub use Rattle.psci_board.specs.declared.fault.BoardFault.TheVariants.{BadBoot, BadLimit, BadRange}
 pub use Rattle.psci_board.specs.declared.fault.BoardFault.TheVariants.{TooManyCores, TooWide}
 pub use Rattle.psci_board.specs.declared.fault.BoardFault.TheVariants.{Uneven}
-pub use Rattle.psci_board.specs.declared.limits.TheConstants.{MOST_CORES}
-pub use Rattle.psci_board.specs.declared.node.Node.{Node}
-pub use Rattle.psci_board.specs.declared.range.AddressRange.{AddressRange}
-pub use Rattle.psci_board.specs.declared.text.TextSummary.{TextSummary}
-pub use Rattle.psci_board.specs.psci_abi.declared.format.Format.{Format}
+pub use Rattle.psci_board.specs.declared.draft.TheConstants.{MOST_CORES}
+pub use Rattle.psci_board.specs.declared.draft.Node.{Node}
+pub use Rattle.psci_board.specs.declared.tree_text.AddressRange.{AddressRange}
+pub use Rattle.psci_board.specs.declared.tree_text.TextSummary.{TextSummary}
+pub use Rattle.psci_board.specs.psci_abi.declared.registers.Format.{Format}

@@ -2,8 +2,8 @@
 use Rattle.std.specs.Prelude.{ℕ, ◌^◌, ◌-◌, ◌||◌, ◌&&◌, not, Bool, List, Option, Some, None}
 use Rattle.std.specs.Prelude.{Result, Ok, Err, nat_lt, nat_le, if◌then◌else◌}
 use Rattle.std.specs.List.{list_any}
-use Rattle.psci_board.specs.declared.limits.TheConstants.{MOST_CORES, MOST_LIVES, MOST_RANGES}
-use Rattle.psci_board.specs.declared.range.AddressRange.{AddressRange}
+use Rattle.psci_board.specs.declared.draft.TheConstants.{MOST_CORES, MOST_LIVES, MOST_RANGES}
+use Rattle.psci_board.specs.declared.tree_text.AddressRange.{AddressRange}
 use Rattle.psci_board.specs.declared.draft.BoardDraft.{BoardDraft}
 use Rattle.psci_board.specs.declared.fault.BoardFault.{BoardFault}
 use Rattle.psci_board.specs.declared.fault.BoardFault.TheVariants.{Uneven, TooWide, TooManyCores}

@@ -1,14 +1,8 @@
 pub mod Board
-pub mod Digits
-pub mod Draft
 pub mod Grammar
-pub mod Laws
+pub mod Draft
 pub mod Level
-pub mod Paths
-pub mod ReadWords
-pub mod Reading
-pub mod Spelling
+pub mod Verdict
 pub mod Summary
 pub mod SummaryVerdict
-pub mod Verdict
 pub use Rattle.psci_abi.specs as psci_abi

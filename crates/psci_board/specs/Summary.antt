@@ -1,14 +1,12 @@
 -- What is kept of a board text while it is read, however long the text is.
-use Rattle.std.specs.Prelude.{ℕ, ◌+◌, ◌||◌, min, Bool, true, false, List, [], ◌∷◌, ◌++◌, length}
-use Rattle.std.specs.Prelude.{take, nat_le, Option, Some}
-use Rattle.psci_board.specs.declared.limits.TheConstants.{MOST_CHILDREN, MOST_CORES, MOST_RANGES}
-use Rattle.psci_board.specs.declared.range.AddressRange.{AddressRange}
-use Rattle.psci_board.specs.Grammar.{Member, TreeText}
+use Rattle.std.specs.Prelude.{◌++◌, ◌+◌, ◌||◌, ◌∷◌, [], Bool, false, length, List, min, nat_le}
+use Rattle.std.specs.Prelude.{Option, Some, take, true, ℕ}
+use Rattle.psci_board.specs.declared.draft.TheConstants.{MOST_CHILDREN, MOST_CORES, MOST_RANGES}
+use Rattle.psci_board.specs.declared.tree_text.AddressRange.{AddressRange}
+use Rattle.psci_board.specs.Grammar.{◌>>=◌, Member, spaced_at, TreeText}
 use Rattle.psci_board.specs.Grammar.Member.{Cluster, Group}
 use Rattle.psci_board.specs.Grammar.TreeText.{One, Members}
-use Rattle.psci_board.specs.ReadWords.{◌>>=◌, spaced_at}
-use Rattle.psci_board.specs.Reading.{more_at, range_at}
-use Rattle.psci_board.specs.Verdict.{is_out_of_width, range_of}
+use Rattle.psci_board.specs.Verdict.{is_out_of_width, more_at, range_at, range_of}
 
 -- Numbers ------------------------------------------------------------------------------------
 

@@ -2,7 +2,7 @@
 use Rattle.std.specs.Prelude.{ℕ, ◌%◌, ◌&&◌, ◌||◌, List, [], ◌∷◌, length, ◌==◌, if◌then◌else◌}
 use Rattle.std.specs.Str.Parse.{digits_value}
 use Rattle.psci_board.specs.declared.draft.BoardDraft.{BoardDraft}
-use Rattle.psci_board.specs.declared.text.TextSummary.{TextSummary}
+use Rattle.psci_board.specs.declared.tree_text.TextSummary.{TextSummary}
 use Rattle.psci_board.specs.Grammar.{BoardText}
 use Rattle.psci_board.specs.Board.{BoardValue, is_in_some}
 use Rattle.psci_board.specs.Summary.{TreeSummaryValue, tree_summary, with_ranges, no_ranges}

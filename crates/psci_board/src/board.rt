@@ -1,13 +1,10 @@
 //! The tree of power domains, and what else a board fixes.
 
-use crate::affinity::place_of;
+use crate::draft::{Core, MOST_ON_PATH, Node, path_of, place_of};
 use crate::level::{Level, copies};
-use crate::limits::MOST_ON_PATH;
 use crate::memory::Memory;
-use crate::node::{Core, Node};
-use crate::path::path_of;
-use crate::range::AddressRange;
 use crate::span::{CoreSpan, first_core};
+use crate::tree_text::AddressRange;
 use arrayvec::ArrayVec;
 use psci_abi::Format;
 use std::alloc::Global;
@@ -49,9 +46,9 @@ impl Model for Board {
 }
 
 ghost use Rattle.std.specs.Prelude.{◌≡◌, ◌<◌, ◌≤◌, true, option_map, IfOk, IfSome};
-ghost use Rattle.psci_board.specs.Board.{IsBoard, HasNode, height, cores, core_at, path, children};
-ghost use Rattle.psci_board.specs.Board.{child, may_enter, node_of, core_of, is_in_some, level_at};
-ghost use Rattle.psci_board.specs.Board.{parent, child_number, nodes, cores_below};
+ghost use Rattle.psci_board.specs.Board.{child, child_number, children, core_at, core_of, cores};
+ghost use Rattle.psci_board.specs.Board.{cores_below, HasNode, height, is_in_some, IsBoard};
+ghost use Rattle.psci_board.specs.Board.{level_at, may_enter, node_of, nodes, parent, path};
 
 impl Board {
     /// The board of these levels, from 1 up, these ranges of executable memory, this entry point of
@@ -216,7 +213,7 @@ impl Board {
 
     /// The cores below a node, which stand side by side, if the board has the node. It takes one
     /// step for each level, however many cores there are.
-    #[tactic(auto, using(crate::proofs::Spans::walk))]
+    #[tactic(auto, using(crate::proofs::Paths::walk))]
     pub fn cores_below(&self, node: Node) -> Option<CoreSpan>
         ensures { result ≡ cores_below self.now node }
     {

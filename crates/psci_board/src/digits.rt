@@ -3,7 +3,7 @@
 ghost use Rattle.std.specs.Prelude.{◌≡◌, ◌^◌, ◌<◌, nat_lt, nat_le, if◌then◌else◌, Some, None};
 ghost use Rattle.std.specs.Option.{SomeIff};
 ghost use Rattle.std.specs.Char.{is_ascii_digit, is_ascii_hexdigit, digit_value};
-ghost use Rattle.psci_board.specs.Digits.{value_and_count};
+ghost use Rattle.psci_board.specs.Grammar.{value_and_count};
 
 /// The value of the decimal digits and their number, where the value is below 2 to the 64.
 pub fn decimal(text: &[u8]) -> Option<(u64, usize)>

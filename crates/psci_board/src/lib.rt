@@ -10,42 +10,30 @@
 //!   byte for byte; a *number* is decimal, a *hexadecimal number* begins with `0x`.
 #![tactic(auto)]
 
-mod affinity;
-#[tactic(auto, using(crate::proofs::Readers::reading))]
+#[tactic(auto, using(crate::proofs::Ranges::reading))]
 mod board;
-mod build;
 mod digits;
 mod draft;
 mod fault;
-mod format_text;
 mod level;
-mod limits;
 mod memory;
-mod node;
-mod path;
-mod range;
-mod range_text;
-mod read;
 mod span;
 mod summary;
-mod text;
-mod text_laws;
 mod tree_laws;
 mod tree_text;
-mod word_laws;
-mod words;
 
 pub use board::{Board, is_in_some};
-pub use draft::BoardDraft;
+pub use draft::{
+    BoardDraft, Core, MOST_CHILDREN, MOST_CORES, MOST_LEVELS, MOST_LIVES, MOST_ON_PATH,
+    MOST_RANGES, Node,
+};
 pub use fault::BoardFault;
 pub use level::Level;
-pub use limits::{MOST_CHILDREN, MOST_CORES, MOST_LEVELS, MOST_LIVES, MOST_ON_PATH, MOST_RANGES};
 pub use memory::Memory;
-pub use node::{Core, Node};
 pub use psci_abi::Format;
-pub use range::AddressRange;
 pub use span::CoreSpan;
-pub use text_laws::{law_board_text, law_boards};
-pub use tree_laws::{law_children, law_parents, law_paths, law_sizes, law_spans, law_words};
-pub use word_laws::law_text;
-pub use words::{hex, literal, number};
+pub use tree_laws::{
+    law_board_text, law_boards, law_children, law_parents, law_paths, law_sizes, law_spans,
+    law_text, law_words,
+};
+pub use tree_text::{AddressRange, hex, literal, number};

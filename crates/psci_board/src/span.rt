@@ -16,7 +16,7 @@ pub struct CoreSpan {
 
 /// The number of the first core below the node at `place` on the level above these. It takes one
 /// step for each level.
-#[tactic(auto, using(crate::proofs::FirstCores::first_step))]
+#[tactic(auto, using(crate::proofs::Paths::first_step))]
 pub fn first_core(levels: &[Level], place: u16) -> u16
     ensures { result ≡ first_core levels.now (length levels.now) place }
 {

@@ -1,7 +1,7 @@
 //! What is kept of a board text while it is read, however long the text is.
 
-use crate::limits::{MOST_CHILDREN, MOST_CORES, MOST_RANGES};
-use crate::range::AddressRange;
+use crate::draft::{MOST_CHILDREN, MOST_CORES, MOST_RANGES};
+use crate::tree_text::AddressRange;
 use arrayvec::ArrayVec;
 use std::marker::Model;
 
@@ -28,12 +28,12 @@ impl Model for NumbersSummary {
     } };
 }
 
-ghost use Rattle.std.specs.Prelude.{◌≡◌, ◌≤◌, ◌||◌, ◌&&◌, true, false, ℕ, min, nat_lt, nat_le};
-ghost use Rattle.std.specs.Prelude.{List, [], ◌∷◌, ◌++◌, take, length};
+ghost use Rattle.std.specs.Prelude.{◌&&◌, ◌++◌, ◌||◌, ◌∷◌, ◌≡◌, ◌≤◌, [], false, length, List, min};
+ghost use Rattle.std.specs.Prelude.{nat_le, nat_lt, take, true, ℕ};
 ghost use Rattle.psci_board.specs.Grammar.Member.{Cluster};
 ghost use Rattle.psci_board.specs.Verdict.{is_out_of_width};
-ghost use Rattle.psci_board.specs.Summary.{TreeSummaryValue, no_numbers, no_members, no_ranges};
-ghost use Rattle.psci_board.specs.Summary.{with_number, with_member, with_range, with_size};
+ghost use Rattle.psci_board.specs.Summary.{no_members, no_numbers, no_ranges, TreeSummaryValue};
+ghost use Rattle.psci_board.specs.Summary.{with_member, with_number, with_range, with_size};
 
 impl NumbersSummary {
     /// No number so far.

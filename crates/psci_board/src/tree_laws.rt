@@ -1,10 +1,11 @@
 //! What holds of the tree of every board. Each law is a function that does nothing, whose contract
 //! is the law.
 
-ghost use Rattle.std.specs.Prelude.{ℕ, List};
-ghost use Rattle.psci_board.specs.Board.{BoardValue, IsBoard, IsTree};
-ghost use Rattle.psci_board.specs.Laws.{SizeLaws, PathLaws, ChildLaws, ParentLaws, SpanLaws};
-ghost use Rattle.psci_board.specs.Laws.{WordLaws};
+ghost use Rattle.std.specs.Prelude.{◌≡◌, List, Ok, Some, ℕ};
+ghost use Rattle.psci_board.specs.Board.{BoardValue, ChildLaws, IsBoard, IsTree, ParentLaws};
+ghost use Rattle.psci_board.specs.Board.{PathLaws, SizeLaws, SpanLaws, WordLaws};
+ghost use Rattle.psci_board.specs.Grammar.{BoardText, IsBoardText, spelling, TextLaws};
+ghost use Rattle.psci_board.specs.Verdict.{board_of, board_text};
 
 /// Each level has 1 to 256 nodes, and that of the system has one.
 pub fn law_sizes()
@@ -20,14 +21,14 @@ pub fn law_paths()
 
 /// The children of a node part the cores below it: each is below exactly one child, and the cores
 /// below a node are those below its first child, then those below the second, and so on.
-#[tactic(auto, using(crate::proofs::Children::child_laws))]
+#[tactic(auto, using(crate::proofs::Paths::child_laws))]
 pub fn law_children()
     ensures { (b : BoardValue) → IsBoard b → ChildLaws b }
 {}
 
 /// One step up and one step down are each other's inverse: a node is the parent of its children,
 /// and each node below the system is the child of its parent that has its number.
-#[tactic(auto, using(crate::proofs::Parents::parent_laws))]
+#[tactic(auto, using(crate::proofs::Named::parent_laws))]
 pub fn law_parents()
     ensures { (b : BoardValue) → IsBoard b → ParentLaws b }
 {}
@@ -43,4 +44,42 @@ pub fn law_spans()
 /// child has its number in a field below those of its parent. A core is named by a word of 24 bits.
 pub fn law_words()
     ensures { (b : BoardValue) → IsBoard b → WordLaws b }
+{}
+
+// The laws of board texts: that each describes a board, and that a text is read as it is spelled.
+// A law is the contract of a function that does nothing.
+
+/// What holds of every board holds of each board that a text describes: whoever has the board of a
+/// text may use all that is known of boards.
+pub fn law_boards()
+    ensures { (bytes : List ℕ) (b : BoardValue) → board_of bytes ≡ Ok b → IsBoard b }
+{}
+
+/// A board text is read as it is spelled, and in no other way: reading and grammar are one, for
+/// every text.
+///
+/// The first clause rules out a reading that refuses a text of the grammar, or that takes it for
+/// another one: no text has two meanings. The second rules out a reading that accepts what the
+/// grammar does not spell: a second space between two words or one at an end, a number with a
+/// leading zero or of 2 to the 64 or more, an address of no digit or of more than 16, `0X` for
+/// `0x`, an empty list, a third bracket, a text without a range, or anything after the text.
+pub fn law_board_text()
+    ensures again { (t : BoardText) → IsBoardText t → board_text (spelling t) ≡ Some t }
+    ensures spelled { (bytes : List ℕ) (t : BoardText) → board_text bytes ≡ Some t
+        → IsBoardText t × (bytes ≡ spelling t) }
+{
+    law_text();
+}
+
+// The law that words and numbers are read as they are spelled, and in no other way.
+
+/// Words and numbers are read as they are spelled, and in no other way.
+///
+/// That what is spelled is read so rules out a reading that refuses a number below 2 to the 64,
+/// digits of either case or leading zeros of a hexadecimal number, or that takes one for another.
+/// That what is read is spelled so rules out a reading that accepts a word in another case, a
+/// leading zero or a number of 2 to the 64 or more, `0X` for `0x`, no digit, or more than 16.
+#[tactic(auto, using(crate::proofs::SpelledParts::reading))]
+pub fn law_text()
+    ensures { TextLaws }
 {}

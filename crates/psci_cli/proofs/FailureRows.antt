@@ -4,7 +4,7 @@ use Rattle.psci_command.specs.psci_script.declared.exit.AuditFailure.TheVariants
 use Rattle.psci_command.specs.psci_script.declared.exit.Failure.TheVariants.{Audit, Gate, Gather}
 use Rattle.psci_command.specs.psci_script.declared.exit.Failure.TheVariants.{Replay, Threads}
 use Rattle.psci_command.specs.psci_script.declared.fault.ReplayFault.TheVariants.{Memory}
-use Rattle.psci_bench.specs.declared.fault.BenchFault.TheVariants as faults
+use Rattle.psci_bench.specs.declared.gathering.BenchFault.TheVariants as faults
 use Rattle.psci_bench.specs.psci_audit.declared.fault.AuditFault.TheVariants as found
 use Rattle.psci_cli.specs.Threading.{failure_at}
 use Rattle.psci_script.proofs.Tables.{◌⇒◌, Gives}

@@ -4,8 +4,8 @@ use Rattle.psci_command.specs.psci_script.declared.exit.Failure.{Failure}
 use Rattle.psci_command.specs.psci_script.declared.exit.Failure.TheVariants.{Audit, Gate, Gather}
 use Rattle.psci_command.specs.psci_script.declared.exit.Failure.TheVariants.{Replay, Threads}
 use Rattle.psci_command.specs.psci_script.declared.fault.ReplayFault.TheVariants.{Memory}
-use Rattle.psci_bench.specs.declared.fault.BenchFault.{BenchFault}
-use Rattle.psci_bench.specs.declared.fault.BenchFault.TheVariants as faults
+use Rattle.psci_bench.specs.declared.gathering.BenchFault.{BenchFault}
+use Rattle.psci_bench.specs.declared.gathering.BenchFault.TheVariants as faults
 use Rattle.psci_bench.specs.psci_audit.declared.fault.AuditFault.{AuditFault}
 use Rattle.psci_bench.specs.psci_audit.declared.fault.AuditFault.TheVariants as found
 

@@ -3,12 +3,7 @@
 #![tactic(auto)]
 
 mod command_line;
-mod commands;
-mod options;
-mod plain;
 mod requests;
-mod show_command;
-mod storm_command;
 mod threads_command;
 
 pub use command_line::{asked, words};

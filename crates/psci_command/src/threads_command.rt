@@ -1,6 +1,6 @@
 //! The command `threads`.
 
-use crate::options::{described, drawn, flag, text};
+use crate::command_line::{described, drawn, flag, text};
 use clap::Command;
 use std::alloc::{AllocError, Global};
 

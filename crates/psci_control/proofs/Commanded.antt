@@ -1,52 +1,133 @@
 -- What the power controller is asked keeps the rules of the port, and leaves a side of it.
-use Rattle.std.proofs.Common.{◌<◌, ◌==◌, ◌∙◌, ◌≡◌, ◌≤◌, ap, arith, Bool, cond, false, List}
-use Rattle.std.proofs.Common.{Option, Some, refl, subst, sym, true, ℕ}
-use Rattle.std.specs.Prelude.{not, ◌&&◌}
-use Rattle.std.proofs.lemmas.Bool.{eq-eqb, eqb-true, false≢true}
+use Rattle.std.proofs.lemmas.Bool.Decides.{nat_tests}
+use Rattle.std.specs.Prelude.{◌&&◌, not}
+use Rattle.std.proofs.Common.{◌<◌, ◌==◌, ◌∙◌, ◌≡◌, ◌≤◌, ap, arith, Bool, cond, false}
+use Rattle.std.proofs.Common.{get_or-set_other, get_or-set_same, length, List, None, Option, refl}
+use Rattle.std.proofs.Common.{Some, subst, sym, true, ℕ}
+use Rattle.std.proofs.lemmas.Bool.{cases_eq, eq-eqb, eqb-true, false≢true}
 use Rattle.psci_board.specs.Board.{BoardValue, cores}
 use Rattle.psci_messages.specs.Message.{MessageValue}
 use Rattle.psci_messages.specs.declared.kind.Kind.TheVariants as kinds
+use Rattle.psci_messages.specs.declared.start.Start.{Start}
+use Rattle.psci_ctl_spec.specs.Replies.{Begins, Deepens, Effect, effect_of, Ends, last_start}
+use Rattle.psci_ctl_spec.specs.Replies.{Nothing, reply, Starts}
+use Rattle.psci_ctl_spec.specs.History.{IsSendable}
+use Rattle.psci_ctl_spec.specs.Values.{Values}
 use Rattle.psci_ctl_spec.specs.declared.call.CtlCall.{CtlCall}
 use Rattle.psci_ctl_spec.specs.declared.call.CtlCall.TheVariants as calls
-use Rattle.psci_ctl_spec.specs.Changes.{change}
-use Rattle.psci_ctl_spec.specs.Effects.{Effect, Nothing, Starts, Deepens, Ends, Begins, effect_of}
-use Rattle.psci_ctl_spec.specs.Legal.{IsSendable}
-use Rattle.psci_ctl_spec.specs.Replies.{reply}
-use Rattle.psci_ctl_spec.specs.Values.{Values}
 use Rattle.psci_world_spec.specs.declared.event.Event.{Event}
 use Rattle.psci_world_spec.specs.declared.event.Event.TheVariants.{Deliver, Reset, Wake}
-use Rattle.psci_port.specs.Port.{Port}
-use Rattle.psci_port.specs.Port.{Delivers, Wakes, Resets}
-use Rattle.psci_port.specs.Port.{Rises, stage_at}
-use Rattle.psci_port.specs.Port.{blank, commanded, first_row, row_by}
-use Rattle.psci_port.specs.Port.{started, step}
-use Rattle.psci_port.specs.Port.{words}
+use Rattle.psci_world_spec.specs.declared.said.Record.{Record}
+use Rattle.psci_port.specs.Port.{blank, cold, commanded, Delivers, first_row, Opens, Port, Resets}
+use Rattle.psci_port.specs.Port.{Rises, Row, row_by, stage_at, started, step, Wakes, words, Writes}
+use Rattle.psci_port.specs.Resting.{is_shown}
 use Rattle.psci_port.specs.Rules.{May}
-use Rattle.psci_port.specs.Stages.{Stage, Standing, AtDoor, Entering, Normal, Leaving, Armed, Woken}
-use Rattle.psci_port.specs.Stages.{has_stopped, is_armed, may_hold}
+use Rattle.psci_port.specs.Stages.{has_stopped, is_armed, may_hold, Stage, Standing}
 use Rattle.psci_port.specs.Waiting.{touches}
-use Rattle.psci_port.proofs.Keeping.{IsKept}
+use Rattle.psci_port.proofs.Locks.{IsKept}
+use Rattle.psci_port.proofs.Running.{shown_is}
+use Rattle.psci_control.specs.ControlSide.{ControlValue, door_due, effect_in, gate_in, gates_after}
+use Rattle.psci_control.specs.ControlSide.{heard, IsAsked, IsControlSide, ordered, telling}
+use Rattle.psci_control.specs.ControlSide.{values_of, waits_in, with_gate}
+use Rattle.psci_control.specs.Orders.{ending_of}
+use Rattle.psci_control.specs.SideOf.{ArmedLacks, IsNew, IsRightly, IsSideOf}
+use Rattle.psci_control.specs.declared.door.DoorOrder.TheVariants.{Open, Write}
 use Rattle.psci_control.specs.declared.gate.Gate.{Gate}
 use Rattle.psci_control.specs.declared.order.Ending.TheVariants as endings
-use Rattle.psci_control.specs.ControlSide.{ControlValue, IsAsked, board_of}
-use Rattle.psci_control.specs.ControlSide.{effect_in, gate_in, gates_after, heard}
-use Rattle.psci_control.specs.ControlSide.{values_of, waits_in}
-use Rattle.psci_control.specs.Orders.{ending_of}
-use Rattle.psci_control.specs.SideOf.{ArmedLacks, IsRightly, IsSideOf}
-use Rattle.psci_control.proofs.Gates.{closed_at}
-use Rattle.psci_control.proofs.Sides.{no_door, not_opened}
+use Rattle.psci_control.proofs.Asked.{blank_at, closed_at}
+
+-- Sides -------------------------------------------------------------------------------------------
+-- Each step of the power controller's side keeps the rules of the port, and leaves a side of it.
+
+-- As power comes on ------------------------------------------------------------------------------
+
+pub no_door : (c : ℕ) → None ≡ (first_row c).door
+no_door c = grind (arith, nat_tests)
+
+pub not_opened : (c : ℕ) → 0 ≡ (first_row c).opened
+not_opened c = grind (arith, nat_tests)
+
+pub first_side : (b : BoardValue) (s : ControlValue) (before : List (List Record)) → IsNew b s
+    → IsSideOf b s (cold b before)
+first_side b s before is = grind (arith, nat_tests, blank_at, no_door, not_opened)
+
+-- What is written down of one core ---------------------------------------------------------------
+
+due_write : (v : Values) (c : ℕ) (g : Gate) (start : Start) → door_due v c g ≡ Some (Write start)
+    → ((g.opened == v.starts c) ≡ false) × (last_start v c ≡ Some start)
+due_write v c g start = grind (arith, nat_tests)
+
+due_open : (v : Values) (c n : ℕ) (g : Gate) → door_due v c g ≡ Some (Open n)
+    → (v.starts c ≡ n) × (is_shown g.written (last_start v c) ≡ true)
+due_open v c n g = grind (arith, nat_tests)
+
+module _ (b : BoardValue) (p : Port) (s : ControlValue) (side : IsSideOf b s p) where
+  -- of one core something else is written down
+  gate_side : (q : Port) (c : ℕ) (g : Gate) → IsControlSide s → c < cores b
+      → q.values ≡ p.values → ((k : ℕ) → (k ≡ c → ⊥) → q.row k ≡ p.row k)
+      → g.written ≡ (q.row c).door → g.opened ≡ (q.row c).opened → g.word ≤ words q c
+      → IsSideOf b (with_gate s c g) q
+  gate_side q c g is has values others written opened word =
+      grind (arith, nat_tests, cases_eq, length, get_or-set_same, get_or-set_other)
+
+  row_other : (c : ℕ) (r : Row) (k : ℕ) → (k ≡ c → ⊥) → cond (k == c) r (p.row k) ≡ p.row k
+  row_other c r k d = grind (arith, nat_tests)
+
+  row_same : (c : ℕ) (r : Row) → cond (c == c) r (p.row c) ≡ r
+  row_same c r = ap (λ t. cond t r (p.row c)) (eq-eqb c c refl)
+
+  pub hears_side : (c word : ℕ) → IsControlSide s → c < cores b → word ≤ words p c
+      → IsSideOf b (with_gate s c (telling word (gate_in s.gates c))) p
+  hears_side c word is has low =
+      gate_side p c (telling word (gate_in s.gates c)) is has refl (λ k d. refl)
+      (side.written c has) (side.opened c has) low
+
+  pub writes_side : (c : ℕ) (start : Start) → IsControlSide s → c < cores b
+      → door_due (values_of s) c (gate_in s.gates c) ≡ Some (Write start)
+      → IsRightly b (with_gate s c (ordered (Some (Write start)) (gate_in s.gates c))) p (Writes c)
+  unfolding step
+  writes_side c start is has due =
+      let was = due_write (values_of s) c (gate_in s.gates c) start due in
+      let row : Row = record (p.row c) { door = last_start p.values c } in
+      record {
+        may = ap (λ n. n == p.values.starts c) (sym (side.opened c has))
+            ∙ ap (λ (v : Values). (gate_in s.gates c).opened == v.starts c) (sym side.values)
+            ∙ was.0;
+        side = gate_side (step b p (Writes c)) c
+            (ordered (Some (Write start)) (gate_in s.gates c)) is has refl (row_other c row)
+            (sym was.1 ∙ ap (λ (v : Values). last_start v c) side.values
+            ∙ ap (λ (r : Row). r.door) (sym (row_same c row)))
+            (side.opened c has ∙ ap (λ (r : Row). r.opened) (sym (row_same c row)))
+            (subst (λ (r : Row). heard s c ≤ r.stopped) (sym (row_same c row))
+            (side.heard c has));
+      }
+
+  pub opens_side : (c number : ℕ) → IsControlSide s → c < cores b
+      → door_due (values_of s) c (gate_in s.gates c) ≡ Some (Open number)
+      → IsRightly b (with_gate s c (ordered (Some (Open number)) (gate_in s.gates c))) p (Opens c)
+  unfolding step
+  opens_side c number is has due =
+      let was = due_open (values_of s) c number (gate_in s.gates c) due in
+      let row : Row = record (p.row c) { opened = p.values.starts c; held = false } in
+      record {
+        may = sym (side.written c has) ∙ shown_is _ _ was.1
+            ∙ ap (λ (v : Values). last_start v c) side.values;
+        side = gate_side (step b p (Opens c)) c
+            (ordered (Some (Open number)) (gate_in s.gates c)) is has refl (row_other c row)
+            (side.written c has ∙ ap (λ (r : Row). r.door) (sym (row_same c row)))
+            (sym was.0 ∙ ap (λ (v : Values). v.starts c) side.values
+            ∙ ap (λ (r : Row). r.opened) (sym (row_same c row)))
+            (subst (λ (r : Row). heard s c ≤ r.stopped) (sym (row_same c row))
+            (side.heard c has));
+      }
 
 -- Tests ------------------------------------------------------------------------------------------
 
 waits_less : (t h w : Bool) → (t && not h) ≡ false → (h ≡ true → w ≡ true) → (t && not w) ≡ false
-waits_less false h w free more = refl
-waits_less true true w free more = ap not (more refl)
-waits_less true false w free more = absurd (false≢true (sym free))
+waits_less t h w free more = grind (arith, nat_tests)
 
 met : (t h : Bool) → (t && not h) ≡ false → t ≡ true → h ≡ true
-met true true free is = refl
-met true false free is = absurd (false≢true (sym free))
-met false h free is = absurd (false≢true is)
+met t h free is = grind (arith, nat_tests)
 
 kept_on : (h : Bool) → not h ≡ false → h ≡ true
 kept_on true e = refl
@@ -54,13 +135,7 @@ kept_on false e = absurd (false≢true (sym e))
 
 -- one that stands and may have the lock is armed
 armed_holder : (y : Stage) → has_stopped y ≡ true → may_hold y ≡ true → is_armed y ≡ true
-armed_holder Standing stopped holds = absurd (false≢true holds)
-armed_holder AtDoor stopped holds = absurd (false≢true stopped)
-armed_holder (Entering s) stopped holds = absurd (false≢true stopped)
-armed_holder Normal stopped holds = absurd (false≢true stopped)
-armed_holder Leaving stopped holds = absurd (false≢true stopped)
-armed_holder Armed stopped holds = refl
-armed_holder Woken stopped holds = absurd (false≢true stopped)
+armed_holder y stopped holds = grind (arith, nat_tests)
 
 module _ (b : BoardValue) (p : Port) (s : ControlValue) (side : IsSideOf b s p) where
   -- What the power controller is asked -----------------------------------------------------------
@@ -69,9 +144,7 @@ module _ (b : BoardValue) (p : Port) (s : ControlValue) (side : IsSideOf b s p) 
   now call = effect_of b call (reply b p.values call)
 
   effect_same : (call : CtlCall) → effect_in s call ≡ now call
-  effect_same call =
-      ap (λ (x : BoardValue). effect_of x call (reply x (values_of s) call)) side.board
-      ∙ ap (λ (v : Values). effect_of b call (reply b v call)) side.values
+  effect_same call = grind (arith, nat_tests)
 
   row_written : (f : Effect) (c : ℕ) → c < cores b
       → (gate_in (gates_after (ending_of f) s.gates) c).written ≡ (row_by c f (p.row c)).door
@@ -115,47 +188,19 @@ module _ (b : BoardValue) (p : Port) (s : ControlValue) (side : IsSideOf b s p) 
 
   commanded_side : (t : ControlValue) (event : Event) (call : CtlCall) → IsAsked call s t
       → IsSideOf b t (commanded b p event call)
-  commanded_side t event call asked = record {
-    board = asked.board ∙ side.board;
-    values = asked.values
-        ∙ ap (λ (f : Effect). change (board_of s) f (values_of s)) (effect_same call)
-        ∙ ap (λ (x : BoardValue). change x (now call) (values_of s)) side.board
-        ∙ ap (λ (v : Values). change b (now call) v) side.values;
-    written = λ c has. ap (λ (gs : List Gate). (gate_in gs c).written) left
-        ∙ row_written (now call) c has;
-    opened = λ c has. ap (λ (gs : List Gate). (gate_in gs c).opened) left
-        ∙ row_opened (now call) c has;
-    heard = λ c has. subst (λ (gs : List Gate). (gate_in gs c).word
-        ≤ (row_by c (now call) (p.row c)).stopped) (sym left) (row_heard (now call) c has);
-  }
-    where
-      left : t.gates ≡ gates_after (ending_of (now call)) s.gates
-      left = asked.gates
-          ∙ ap (λ (f : Effect). gates_after (ending_of f) s.gates) (effect_same call)
+  commanded_side t event call asked =
+      grind (arith, nat_tests, effect_same, row_written, row_opened, row_heard)
 
   -- who has the lock is nothing to the side
   lock_side : (t : ControlValue) (q : Port) (l : Option ℕ) → IsSideOf b t q
       → IsSideOf b t (record q { lock = l })
-  lock_side t q l is = record {
-    board = is.board;
-    values = is.values;
-    written = is.written;
-    opened = is.opened;
-    heard = is.heard;
-  }
+  lock_side t q l is = grind (arith, nat_tests)
 
   module _ (kept : IsKept p) where
     -- where the side has heard that a core stands in its last start, the core says so
     truly : (c : ℕ) → c < cores b → heard s c ≡ (values_of s).starts c
         → words p c ≡ p.values.starts c
-    truly c has is =
-        let e : heard s c ≡ p.values.starts c =
-        is ∙ ap (λ (v : Values). v.starts c) side.values in
-        let low = side.heard c has in
-        let stood = (kept.rows c).stood in
-        let used = (kept.rows c).used in
-        let opened = (kept.rows c).opened in
-        omega (arith, e, low, stood, used, opened)
+    truly c has is = grind (arith, nat_tests)
 
     -- and then it has not the lock, if none that is armed has
     free_of : (c : ℕ) → words p c ≡ p.values.starts c → ArmedLacks p c → p.lock ≡ Some c → ⊥

@@ -1,13 +1,13 @@
 -- Worked examples of orders: which comes first, and what they do to power.
 use Rattle.std.proofs.Common.{◌∷◌, ◌≡◌, [], false, refl, ℕ}
 use Rattle.psci_board.specs.Board.{up}
-use Rattle.psci_board.specs.declared.node.Core.{Core}
+use Rattle.psci_board.specs.declared.draft.Core.{Core}
 use Rattle.psci_messages.specs.Message.{AckValue}
 use Rattle.psci_messages.specs.declared.kind.Kind.TheVariants.{Down}
 use Rattle.psci_messages.specs.declared.part.Part.{Part}
 use Rattle.psci_ctl_spec.specs.declared.delivery.Delivery.TheVariants as deliveries
 use Rattle.psci_ctl_spec.specs.declared.reply.CtlReply.TheVariants as replies
-use Rattle.psci_ctl_spec.specs.Effects.{Deepens}
+use Rattle.psci_ctl_spec.specs.Replies.{Deepens}
 use Rattle.psci_world_spec.proofs.Scripts.{board}
 use Rattle.psci_control.specs.declared.order.Order.TheVariants.{Switch, Raise, Acknowledge}
 use Rattle.psci_control.specs.Orders.{orders_of}

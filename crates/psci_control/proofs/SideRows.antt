@@ -1,7 +1,7 @@
 -- Worked examples: sides of the power controller of which just one thing is not so that holds of a
 -- side, of a port, or after a call.
-use Rattle.std.proofs.Common.{◌∙◌, ◌∷◌, ◌≡◌, [], ap, arith, false, length, List, map}
-use Rattle.std.proofs.Common.{None, refl, Some, sym, true, ℕ}
+use Rattle.std.proofs.Common.{◌∙◌, ◌∷◌, ◌≡◌, [], ap, arith, false, length, List, map, None, refl}
+use Rattle.std.proofs.Common.{Some, sym, true, ℕ}
 use Rattle.std.proofs.lemmas.Option.{none-some}
 use Rattle.std.proofs.lemmas.Bool.{eqb-false, false≢true}
 use Rattle.psci_board.specs.Board.{cores}
@@ -16,16 +16,16 @@ use Rattle.psci_ctl_spec.specs.Values.{Values}
 use Rattle.psci_world_spec.specs.psci_abi.declared.registers.Regs.{Regs}
 use Rattle.psci_world_spec.specs.declared.said.Said.TheVariants.{Absent}
 use Rattle.psci_world_spec.proofs.Scripts.{board, computing, one_core}
-use Rattle.psci_port.specs.Port.{Port, Locks, Unlocks, Calls, Enters, Takes, Finishes, TakesUp}
-use Rattle.psci_port.specs.Port.{Stands, Arms, Sleeps, Delivers, Wakes, Resets, Writes, Rouses}
-use Rattle.psci_port.specs.Port.{Rises, Turns, Opens, Cuts, Restarts, Reboots, cold, gone_to, step}
+use Rattle.psci_port.specs.Port.{Arms, Calls, cold, Cuts, Delivers, Enters, Finishes, gone_to}
+use Rattle.psci_port.specs.Port.{Locks, Opens, Port, Reboots, Resets, Restarts, Rises, Rouses}
+use Rattle.psci_port.specs.Port.{Sleeps, Stands, step, Takes, TakesUp, Turns, Unlocks, Wakes}
+use Rattle.psci_port.specs.Port.{Writes}
 use Rattle.psci_port.specs.Stages.{Armed}
 use Rattle.psci_control.specs.declared.gate.Gate.{Gate}
-use Rattle.psci_control.specs.ControlSide.{ControlValue, IsAsked, IsControlSide}
-use Rattle.psci_control.specs.ControlSide.{IsWaiting, board_of}
-use Rattle.psci_control.specs.ControlSide.{closed, gate_in, heard, holding, values_of, with_gate}
+use Rattle.psci_control.specs.ControlSide.{board_of, closed, ControlValue, gate_in, heard, holding}
+use Rattle.psci_control.specs.ControlSide.{IsAsked, IsControlSide, IsWaiting, values_of, with_gate}
 use Rattle.psci_control.specs.SideOf.{ArmedLacks, IsNew, IsRightly, IsSideOf, is_apart}
-use Rattle.psci_control.proofs.Gates.{blank_at}
+use Rattle.psci_control.proofs.Asked.{blank_at}
 
 -- A side ------------------------------------------------------------------------------------------
 

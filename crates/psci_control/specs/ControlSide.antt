@@ -1,15 +1,13 @@
 -- The power controller's side of a port: what it keeps, and what each call leaves of that.
-use Rattle.std.specs.Prelude.{◌≡◌, ℕ, Bool, List, length, replicate, slice_index_or, slice_set}
-use Rattle.std.specs.Prelude.{◌==◌, if◌then◌else◌, Option, None, Some, option_map}
+use Rattle.std.specs.Prelude.{◌==◌, ◌≡◌, Bool, if◌then◌else◌, length, List, None, Option}
+use Rattle.std.specs.Prelude.{option_map, replicate, slice_index_or, slice_set, Some, ℕ}
 use Rattle.psci_ctl.specs.Seen.{ControllerValue, seen}
 use Rattle.psci_board.specs.Board.{BoardValue, cores}
 use Rattle.psci_messages.specs.Message.{MessageValue}
 use Rattle.psci_ctl_spec.specs.declared.call.CtlCall.{CtlCall}
-use Rattle.psci_ctl_spec.specs.Changes.{change}
+use Rattle.psci_ctl_spec.specs.Replies.{change, Effect, effect_of, last_start, reply}
 use Rattle.psci_ctl_spec.specs.declared.reply.CtlReply.{CtlReply}
-use Rattle.psci_ctl_spec.specs.Effects.{Effect, effect_of}
-use Rattle.psci_ctl_spec.specs.Legal.{IsOfBoard}
-use Rattle.psci_ctl_spec.specs.Replies.{last_start, reply}
+use Rattle.psci_ctl_spec.specs.History.{IsOfBoard}
 use Rattle.psci_port.specs.Resting.{is_shown}
 use Rattle.psci_ctl_spec.specs.Values.{Values}
 use Rattle.psci_control.specs.declared.door.DoorOrder.{DoorOrder}

@@ -1,13 +1,13 @@
 -- What the power controller's side of a port orders, and in which order.
-use Rattle.std.specs.Prelude.{ℕ, Bool, true, false, List, [], ◌∷◌, ◌++◌, drop, map}
-use Rattle.std.specs.Prelude.{Option, None, Some}
-use Rattle.psci_board.specs.declared.node.Core.{Core}
+use Rattle.std.specs.Prelude.{◌++◌, ◌∷◌, [], Bool, drop, false, List, map, None, Option, Some}
+use Rattle.std.specs.Prelude.{true, ℕ}
+use Rattle.psci_board.specs.declared.draft.Core.{Core}
 use Rattle.psci_messages.specs.Message.{AckValue}
 use Rattle.psci_messages.specs.declared.part.Part.{Part}
 use Rattle.psci_ctl_spec.specs.declared.delivery.Delivery.TheVariants as deliveries
 use Rattle.psci_ctl_spec.specs.declared.reply.CtlReply.{CtlReply}
 use Rattle.psci_ctl_spec.specs.declared.reply.CtlReply.TheVariants as replies
-use Rattle.psci_ctl_spec.specs.Effects.{Effect, Nothing, Starts, Deepens, Ends, Begins}
+use Rattle.psci_ctl_spec.specs.Replies.{Effect, Nothing, Starts, Deepens, Ends, Begins}
 use Rattle.psci_control.specs.declared.order.Ending.{Ending}
 use Rattle.psci_control.specs.declared.order.Ending.TheVariants as endings
 use Rattle.psci_control.specs.declared.order.Order.{Order}

@@ -1,8 +1,7 @@
 -- What orders leave of the power of a machine that carries them out.
 use Rattle.std.specs.Prelude.{ℕ, ◌==◌, ◌&&◌, if◌then◌else◌, List, [], ◌∷◌}
-use Rattle.psci_board.specs.Board.{BoardValue}
-use Rattle.psci_board.specs.Paths.{is_on_path}
-use Rattle.psci_ctl_spec.specs.Changes.{with_path_on}
+use Rattle.psci_board.specs.Board.{BoardValue, is_on_path}
+use Rattle.psci_ctl_spec.specs.Replies.{with_path_on}
 use Rattle.psci_control.specs.declared.order.Order.{Order}
 use Rattle.psci_control.specs.declared.order.Order.TheVariants.{Switch, Raise, Acknowledge, End}
 

@@ -2,10 +2,8 @@
 use Rattle.std.specs.Prelude.{◌≡◌, ℕ, ◌<◌, ◌≤◌, Bool, true, false, replicate}
 use Rattle.psci_board.specs.Board.{BoardValue, cores}
 use Rattle.psci_ctl_spec.specs.Values.{start_of_life}
-use Rattle.psci_port.specs.Port.{Port, Act, Locks, Unlocks, Calls, Enters, Takes, Finishes}
-use Rattle.psci_port.specs.Port.{TakesUp, Stands, Arms, Sleeps, Delivers, Wakes, Resets, Writes}
-use Rattle.psci_port.specs.Port.{Rouses, Rises, Turns, Opens, Cuts, Restarts, Reboots, stage_at}
-use Rattle.psci_port.specs.Port.{step, words}
+use Rattle.psci_port.specs.Port.{Port, Act, Delivers, Wakes, Resets, Writes, Rises, Opens, Restarts}
+use Rattle.psci_port.specs.Port.{Reboots, stage_at, step, words}
 use Rattle.psci_port.specs.Rules.{LacksLock, May}
 use Rattle.psci_port.specs.Stages.{is_armed}
 use Rattle.psci_control.specs.ControlSide.{ControlValue, board_of, closed, gate_in, heard}
@@ -37,24 +35,12 @@ ArmedLacks p c = is_armed (stage_at p c) ≡ true → LacksLock p c
 
 -- an act of a core, or of what switches power: none of the power controller
 abbrev pub is_apart : Act → Bool
-is_apart (Locks c) = true
-is_apart (Unlocks c) = true
-is_apart (Calls c regs said) = true
-is_apart (Enters c said) = true
-is_apart (Takes c k said) = true
-is_apart (Finishes c) = true
-is_apart (TakesUp c) = true
-is_apart (Stands c) = true
-is_apart (Arms c) = true
-is_apart (Sleeps c) = true
 is_apart (Delivers k m) = false
 is_apart (Wakes c) = false
 is_apart (Resets c) = false
-is_apart (Rouses c) = true
 is_apart (Rises c) = false
-is_apart (Turns c) = true
 is_apart (Writes c) = false
 is_apart (Opens c) = false
-is_apart (Cuts level place) = true
 is_apart Restarts = false
 is_apart Reboots = false
+is_apart act = true

@@ -27,13 +27,12 @@ impl Model for ControlSide {
     }) };
 }
 
-ghost use Rattle.std.specs.Prelude.{◌≡◌, ◌<◌, ℕ, false, true, IfOk, IfSome, None, Some};
-ghost use Rattle.std.specs.Prelude.{replicate};
+ghost use Rattle.std.specs.Prelude.{◌<◌, ◌≡◌, false, IfOk, IfSome, None, replicate, Some, true, ℕ};
 ghost use Rattle.psci_board.specs.Board.{cores};
-ghost use Rattle.psci_control.specs.ControlSide.{IsAsked, board_of, closed, door_due, gate_in};
-ghost use Rattle.psci_control.specs.ControlSide.{gates_after, heard, holding, ordered, orders_in};
+ghost use Rattle.psci_control.specs.ControlSide.{board_of, closed, door_due, gate_in, gates_after};
+ghost use Rattle.psci_control.specs.ControlSide.{heard, holding, IsAsked, ordered, orders_in};
 ghost use Rattle.psci_control.specs.ControlSide.{served, telling, values_of, waits_in, with_gate};
-ghost use Rattle.psci_ctl_spec.specs.Legal.{IsOfBoard};
+ghost use Rattle.psci_ctl_spec.specs.History.{IsOfBoard};
 ghost use Rattle.psci_ctl_spec.specs.Values.{start_of_life};
 ghost use Rattle.psci_ctl_spec.specs.declared.call.CtlCall.TheVariants as calls;
 ghost use Rattle.psci_messages.specs.Message.{MessageValue};

@@ -3,9 +3,8 @@
 ghost use Rattle.std.specs.Prelude.{◌≡◌, ◌<◌, false, true, None, Some, option_map};
 ghost use Rattle.psci_board.specs.Board.{cores};
 ghost use Rattle.psci_ctl.specs.Seen.{seen};
-ghost use Rattle.psci_ctl_spec.specs.Changes.{after};
-ghost use Rattle.psci_ctl_spec.specs.Legal.{IsOfBoard};
-ghost use Rattle.psci_ctl_spec.specs.Replies.{reply};
+ghost use Rattle.psci_ctl_spec.specs.Replies.{after, reply};
+ghost use Rattle.psci_ctl_spec.specs.History.{IsOfBoard};
 ghost use Rattle.psci_ctl_spec.specs.declared.call.CtlCall.TheVariants as calls;
 ghost use Rattle.psci_ctl_spec.specs.declared.reply.CtlReply.TheVariants as replies;
 ghost use Rattle.psci_port.specs.Waiting.{waits};

@@ -2,25 +2,23 @@
 
 ghost use Rattle.std.specs.Prelude.{◌≡◌, ◌<◌, ◌≤◌, ℕ, ◌∷◌, false, true, List, None, Some};
 ghost use Rattle.psci_board.specs.Board.{BoardValue, IsBoard, cores};
-ghost use Rattle.psci_control.specs.ControlSide.{ControlValue, IsAsked, IsControlSide, door_due};
-ghost use Rattle.psci_control.specs.ControlSide.{gate_in, heard, ordered, telling, values_of};
+ghost use Rattle.psci_control.specs.ControlSide.{ControlValue, door_due, gate_in, heard, IsAsked};
+ghost use Rattle.psci_control.specs.ControlSide.{IsControlSide, ordered, telling, values_of};
 ghost use Rattle.psci_control.specs.ControlSide.{waits_in, with_gate};
 ghost use Rattle.psci_control.specs.Orders.{ending_of, orders_of};
 ghost use Rattle.psci_control.specs.Powered.{powered};
 ghost use Rattle.psci_control.specs.SideOf.{ArmedLacks, IsNew, IsRightly, IsSideOf, is_apart};
 ghost use Rattle.psci_control.specs.declared.door.DoorOrder.TheVariants as orders;
-ghost use Rattle.psci_ctl_spec.specs.Changes.{change};
-ghost use Rattle.psci_ctl_spec.specs.Effects.{effect_of};
-ghost use Rattle.psci_ctl_spec.specs.Legal.{IsCall, IsSendable};
-ghost use Rattle.psci_ctl_spec.specs.Replies.{reply};
+ghost use Rattle.psci_ctl_spec.specs.Replies.{change, effect_of, reply};
+ghost use Rattle.psci_ctl_spec.specs.History.{IsCall, IsSendable};
 ghost use Rattle.psci_ctl_spec.specs.Values.{Values};
 ghost use Rattle.psci_ctl_spec.specs.declared.call.CtlCall.{CtlCall};
 ghost use Rattle.psci_ctl_spec.specs.declared.call.CtlCall.TheVariants as calls;
 ghost use Rattle.psci_messages.specs.Message.{MessageValue};
 ghost use Rattle.psci_messages.specs.declared.kind.Kind.TheVariants as kinds;
 ghost use Rattle.psci_messages.specs.declared.start.Start.{Start};
-ghost use Rattle.psci_port.specs.Port.{Act, Delivers, Opens, Port, Resets, Rises, Wakes, Writes};
-ghost use Rattle.psci_port.specs.Port.{cold, state, step, words};
+ghost use Rattle.psci_port.specs.Port.{Act, cold, Delivers, Opens, Port, Resets, Rises, state};
+ghost use Rattle.psci_port.specs.Port.{step, Wakes, words, Writes};
 ghost use Rattle.psci_port.specs.Rules.{IsPortRun, LacksLock, May};
 ghost use Rattle.psci_world_spec.specs.declared.said.Record.{Record};
 

@@ -3,7 +3,7 @@
 ghost use Rattle.std.specs.Prelude.{◌≡◌, ℕ};
 ghost use Rattle.psci_board.specs.Board.{BoardValue};
 ghost use Rattle.psci_control.specs.Orders.{orders_of, ending_of};
-ghost use Rattle.psci_ctl_spec.specs.Effects.{effect_of, message_effect};
+ghost use Rattle.psci_ctl_spec.specs.Replies.{effect_of, message_effect};
 ghost use Rattle.psci_ctl_spec.specs.declared.call.CtlCall.TheVariants as calls;
 ghost use Rattle.psci_ctl_spec.specs.declared.delivery.Delivery.TheVariants as deliveries;
 ghost use Rattle.psci_ctl_spec.specs.declared.reply.CtlReply.TheVariants as replies;
@@ -13,7 +13,7 @@ use psci_board::{Board, Core};
 use psci_ctl::{Ack, Delivery, Kick, Kind, Message, Parts};
 
 /// How a life ends by the delivery of a message, if it does.
-#[tactic(auto, unfolding(psci_ctl_spec::specs::Effects::effect_of))]
+#[tactic(auto, unfolding(psci_ctl_spec::specs::Replies::effect_of))]
 pub fn ending_by(board: &Board, message: &Message, delivery: &Delivery) -> Option<Ending>
     ensures { result ≡ ending_of (effect_of board.now (calls.Deliver message.now)
         (replies.Delivery delivery.now)) }
@@ -40,7 +40,7 @@ fn ending_applied(board: &Board, message: &Message, ack: &Ack) -> Option<Ending>
 }
 
 /// What the delivery of a message orders.
-#[tactic(auto, unfolding(psci_ctl_spec::specs::Effects::effect_of))]
+#[tactic(auto, unfolding(psci_ctl_spec::specs::Replies::effect_of))]
 pub fn delivery_orders(board: &Board, message: &Message, delivery: Delivery) -> Orders
     ensures { result ≡ orders_of (effect_of board.now (calls.Deliver message.now)
         (replies.Delivery delivery)) (replies.Delivery delivery) }
@@ -68,7 +68,7 @@ fn applied_orders(board: &Board, message: &Message, ack: Ack) -> Orders
 }
 
 /// What a wake-up or a reset of a core orders.
-#[tactic(auto, unfolding(psci_ctl_spec::specs::Effects::effect_of))]
+#[tactic(auto, unfolding(psci_ctl_spec::specs::Replies::effect_of))]
 pub fn kick_orders(core: Core, kick: Kick) -> Orders
     ensures wake { (b : BoardValue) (halted : ℕ) → result
         ≡ orders_of (effect_of b (calls.Wake core halted) (replies.Kick kick)) (replies.Kick kick) }

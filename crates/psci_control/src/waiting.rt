@@ -3,15 +3,14 @@
 ghost use Rattle.std.specs.Prelude.{◌≡◌, ◌<◌, ◌==◌, ◌&&◌, not};
 ghost use Rattle.psci_board.specs.Board.{cores};
 ghost use Rattle.psci_ctl.specs.Seen.{seen};
-ghost use Rattle.psci_ctl_spec.specs.Legal.{IsOfBoard};
-ghost use Rattle.psci_ctl_spec.specs.Parts.{begins_stale};
+ghost use Rattle.psci_ctl_spec.specs.History.{IsOfBoard};
+ghost use Rattle.psci_ctl_spec.specs.Values.{begins_stale};
 ghost use Rattle.psci_ctl_spec.specs.declared.call.CtlCall.TheVariants as calls;
 ghost use Rattle.psci_messages.specs.declared.kind.Kind.TheVariants.{Down};
 ghost use Rattle.psci_port.specs.Waiting.{switches, touches, waits};
 
 use psci_board::{Core, law_paths};
 use psci_ctl::Controller;
-use psci_ctl_spec::law_sums;
 use psci_messages::{Kind, Message, law_parts};
 
 /// Whether the first part of this Down is live.
@@ -23,7 +22,6 @@ fn is_live(controller: &Controller, message: &Message) -> bool
 {
     law_parts();
     law_paths();
-    law_sums();
     let starts = controller.starts(message.core);
     let _cores = controller.board().cores();
     match message.parts.as_slice().first() {

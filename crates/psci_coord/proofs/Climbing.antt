@@ -1,11 +1,19 @@
 -- A claim is made going up, one level after another.
-use Rattle.std.proofs.Common.{◌≡◌, ℕ, zero, suc, ◌+◌, ◌-◌, ◌<◌, List, [], ◌∷◌, ◌++◌, length, ◌≢◌}
-use Rattle.std.proofs.Common.{refl, arith, append_assoc, append-nil, length-append}
+use Rattle.std.proofs.Common.{◌++◌, ◌+◌, ◌-◌, ◌<◌, ◌∷◌, ◌≡◌, ◌≢◌, [], ap, append-nil}
+use Rattle.std.proofs.Common.{append_assoc, arith, length, length-append, List, refl, suc, zero}
+use Rattle.std.proofs.Common.{ℕ}
 use Rattle.std.proofs.lemmas.Bool.{lt-ltb}
-use Rattle.psci_board.specs.Board.{BoardValue, height}
+use Rattle.psci_board.specs.Board.{BoardValue, height, up}
+use Rattle.psci_board.specs.declared.draft.Node.{Node}
+use Rattle.psci_tree.specs.Recount.{known, low, TreeValue}
+use Rattle.psci_tree.specs.Standing.{on_path}
+use Rattle.psci_messages.specs.Claim.{claims_of, climb}
+use Rattle.psci_messages.specs.Looked.{view_of}
+use Rattle.psci_messages.specs.View.{domain_of, generation, least_ask, PowerView}
 use Rattle.psci_messages.specs.declared.part.Part.{Part}
-use Rattle.psci_messages.specs.View.{PowerView, domain_of, generation}
-use Rattle.psci_messages.specs.Claim.{climb, claims_of}
+use Rattle.psci_coord.specs.Wish.{depth_of, wanted}
+use Rattle.psci_coord.specs.declared.claim.Wish.{Wish}
+use Rattle.psci_coord.specs.declared.claim.Wish.TheVariants.{Least, Own}
 
 -- a part that is wanted comes first
 pub climb-more : (wanted generation_at : ℕ → ℕ) (level count : ℕ) → 0 < wanted level
@@ -58,3 +66,24 @@ pub climbed-ends : (b : BoardValue) (v : PowerView) (core : ℕ) (wanted : ℕ �
 climbed-ends b v core wanted level parts c none =
     let gs : ℕ → ℕ = λ m. generation b v (domain_of b core m) in
     rw (climb-ends wanted gs level (height b + 1 - level) none, append-nil) at c.rest
+
+-- What a tree answers is what is counted below a domain of the board ------------------------------
+
+-- on a core's path
+pub wanted-is : (b : BoardValue) (t : TreeValue) (core level : ℕ) (n : Node) (wish : Wish)
+    → t.levels ≡ b.levels → n ≡ domain_of b core level
+    → depth_of t n wish ≡ wanted b (view_of t) core wish level
+unfolding low least_ask up
+wanted-is b t core level n Least e at = rw (at, e) refl
+wanted-is b t core level n (Own ask) e at = rw at refl
+
+pub known-is : (b : BoardValue) (t : TreeValue) (core level : ℕ) (n : Node) → t.levels ≡ b.levels
+    → n ≡ domain_of b core level → known t n ≡ generation b (view_of t) (domain_of b core level)
+unfolding known generation up
+known-is b t core level n e at = rw (at, e) refl
+
+-- the domain of a level on a core's path
+pub node-is : (b : BoardValue) (t : TreeValue) (core level : ℕ) → t.levels ≡ b.levels
+    → on_path t.levels core level ≡ domain_of b core level
+unfolding up
+node-is b t core level e = ap (λ ls. on_path ls core level) e

@@ -1,2 +1,1 @@
 pub mod Climbing
-pub mod TreeView

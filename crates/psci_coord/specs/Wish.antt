@@ -1,6 +1,6 @@
 -- Which depths a core that stops wants, in code.
 use Rattle.std.specs.Prelude.{ℕ}
-use Rattle.psci_board.specs.declared.node.Node.{Node}
+use Rattle.psci_board.specs.declared.draft.Node.{Node}
 use Rattle.psci_board.specs.Board.{BoardValue}
 use Rattle.psci_tree.specs.Recount.{TreeValue, low}
 use Rattle.psci_coord.specs.declared.claim.Wish.{Wish}

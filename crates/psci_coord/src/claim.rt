@@ -1,7 +1,7 @@
 //! The parts that a core sends when it stops.
 
 ghost use Rattle.std.specs.Prelude.{◌≡◌, ◌<◌, []};
-ghost use Rattle.psci_board.specs.declared.node.Node.{Node};
+ghost use Rattle.psci_board.specs.declared.draft.Node.{Node};
 ghost use Rattle.psci_board.specs.Board.{cores};
 ghost use Rattle.psci_tree.specs.Recount.{TreeValue, low as low_of};
 ghost use Rattle.psci_messages.specs.Claim.{claims_of, platform_claims, own_claims};

@@ -1,19 +1,142 @@
 -- What a power controller keeps after each change is such as one keeps.
-use Rattle.std.proofs.Common.{◌≡◌, ℕ, ◌+◌, ◌<◌, ◌≤◌, List, length, Option, Some, sym, ◌∙◌, subst}
-use Rattle.std.proofs.Common.{ap, cond, refl, Bool, true, false, ◌==◌, ◌&&◌, [], get_or}
 use Rattle.std.specs.Prelude.{nat_lt}
-use Rattle.std.proofs.lemmas.Bool.{and_parts, eq-eqb, eqb-true, lt-ltb}
-use Rattle.psci_board.specs.Board.{BoardValue, IsBoard, cores}
+use Rattle.std.proofs.Common.{◌&&◌, ◌+◌, ◌<◌, ◌==◌, ◌^◌, ◌∙◌, ◌∷◌, ◌≡◌, ◌≤◌, [], ap, arith, Bool}
+use Rattle.std.proofs.Common.{cond, false, get_or, inl, inr, length, List, Option, refl}
+use Rattle.std.proofs.Common.{replicate, Some, subst, suc, sym, true, zero, ℕ}
+use Rattle.std.proofs.Math.ListN.{length-set, set}
+use Rattle.std.proofs.lemmas.Bool.{and_parts, cases_eq, cases_lt, eq-eqb, eqb-true, le-leb}
+use Rattle.std.proofs.lemmas.Bool.{le-ltb, lt-ltb, ne_eqb}
+use Rattle.std.proofs.lemmas.List.{get_or-set_other, get_or-set_same}
+use Rattle.psci_board.specs.Board.{BoardValue, cores, height, is_on_path, IsBoard, up}
+use Rattle.psci_board.specs.declared.draft.TheConstants.{MOST_CORES}
+use Rattle.psci_board.specs.declared.draft.Node.{Node}
 use Rattle.psci_messages.specs.declared.start.Cause.{Cause}
-use Rattle.psci_ctl_spec.specs.Changes.{change, next_life, with_start}
-use Rattle.psci_ctl_spec.specs.Effects.{Effect, Starts, Ends, Begins}
-use Rattle.psci_ctl_spec.specs.Follows.{AreValues, MayFollow}
-use Rattle.psci_ctl_spec.specs.Values.{Values, start_of_life}
-use Rattle.psci_ctl.specs.declared.row.CoreRow.{CoreRow}
-use Rattle.psci_ctl.specs.declared.level.DomainRow.{DomainRow}
-use Rattle.psci_ctl.specs.Rows.{AreRows, HasRows, core_row, depth_in, domain_at, values_in}
+use Rattle.psci_messages.specs.declared.start.Cause.TheVariants as causes
+use Rattle.psci_ctl_spec.specs.Replies.{Begins, change, Effect, Ends, next_life, one_more}
+use Rattle.psci_ctl_spec.specs.Replies.{Starts, with_cause, with_start}
+use Rattle.psci_ctl_spec.specs.History.{AreValues, MayFollow, SumLaws}
+use Rattle.psci_ctl_spec.specs.Values.{start_of_life, starts_below, Values}
+use Rattle.psci_ctl_spec.proofs.Steps.{same_values}
+use Rattle.psci_ctl.specs.Rows.{AreRows, core_row, depth_in, domain_at, HasRows, HasSums}
+use Rattle.psci_ctl.specs.Rows.{off_core, off_domain, path_on_below, path_on_once, values_in}
+use Rattle.psci_ctl.specs.Rows.{with_core}
 use Rattle.psci_ctl.specs.Seen.{ControllerValue, IsController}
-use Rattle.psci_ctl.proofs.Looked.{domain_set, set_row}
+use Rattle.psci_ctl.specs.declared.level.DomainRow.{DomainRow}
+use Rattle.psci_ctl.specs.declared.row.CoreRow.{CoreRow}
+
+-- Rows by look-up: what a written row leaves of each ----------------------------------------------
+
+-- the rows with one domain's written
+abbrev pub set_row : List (List DomainRow) → ℕ → ℕ → DomainRow → List (List DomainRow)
+set_row ds l p row = set ds l (set (get_or ds l []) p row)
+
+at_set : (rs : List DomainRow) (p q : ℕ) (row : DomainRow) → p < length rs
+    → get_or (set rs p row) q off_domain ≡ cond (q == p) row (get_or rs q off_domain)
+at_set rs p q row h = grind (arith, get_or-set_same, get_or-set_other, cases_eq q p)
+
+pub domain_set : (ds : List (List DomainRow)) (l p m q : ℕ) (row : DomainRow) → l < length ds
+    → p < length (get_or ds l [])
+    → domain_at (set_row ds l p row) m q
+    ≡ cond (m == l && q == p) row (domain_at ds m q)
+domain_set ds l p m q row h i = elim (cases_eq m l) [
+  | inl e ↦ rw (eq-eqb m l e, e, get_or-set_same ds l (set (get_or ds l []) p row) [] h)
+      (at_set (get_or ds l []) p q row i)
+  | inr e ↦ rw (ne_eqb m l e, get_or-set_other ds l m (set (get_or ds l []) p row) [] e) refl
+]
+
+row_length : (ds : List (List DomainRow)) (l p m : ℕ) (row : DomainRow)
+    → length (get_or (set_row ds l p row) m []) ≡ length (get_or ds m [])
+row_length [] l p m row = refl
+row_length (d ∷ ds) zero p zero row = length-set d p row
+row_length (d ∷ ds) zero p (suc m) row = refl
+row_length (d ∷ ds) (suc l) p zero row = refl
+row_length (d ∷ ds) (suc l) p (suc m) row = row_length ds l p m row
+
+pub shape_set : (b : BoardValue) (ds : List (List DomainRow)) (l p : ℕ) (row : DomainRow)
+    → HasRows b ds → HasRows b (set_row ds l p row)
+shape_set b ds l p row shape = record {
+  levels = length-set ds l (set (get_or ds l []) p row) ∙ shape.levels;
+  places = λ m low. row_length ds l p m row ∙ shape.places m low;
+}
+
+pub core_set : (cs : List CoreRow) (c k : ℕ) (row : CoreRow) → c < length cs
+    → core_row (set cs c row) k ≡ with_core cs c row k
+core_set cs c k row h = grind (arith, get_or-set_same, get_or-set_other, cases_eq k c)
+
+-- Powered down -------------------------------------------------------------------------------
+
+pub off_core_row : (n k : ℕ) → core_row (replicate n off_core) k ≡ off_core
+off_core_row zero k = refl
+off_core_row (suc n) zero = refl
+off_core_row (suc n) (suc k) = off_core_row n k
+
+-- Paths --------------------------------------------------------------------------------------
+
+-- at a level that was not reached, nothing ran
+not_yet : (b : BoardValue) (c k : ℕ) (old : List (List DomainRow)) (l p : ℕ) → k ≤ l
+    → path_on_below b c old k l p ≡ domain_at old l p
+not_yet b c k old l p h =
+    ap (λ t. cond (t && is_on_path b c l p) (path_on_once (domain_at old l p)) (domain_at old l p))
+    (le-ltb l k h)
+
+-- at a level that was reached, the path is fully on
+reached : (b : BoardValue) (c k : ℕ) (old : List (List DomainRow)) (l p : ℕ) (t : Bool) → l < k
+    → is_on_path b c l p ≡ t
+    → path_on_below b c old k l p ≡ cond t (path_on_once (domain_at old l p)) (domain_at old l p)
+reached b c k old l p t h e =
+    ap (λ s. cond (s && is_on_path b c l p) (path_on_once (domain_at old l p)) (domain_at old l p))
+    (lt-ltb l k h)
+    ∙ ap (λ s. cond s (path_on_once (domain_at old l p)) (domain_at old l p)) e
+
+path_test : (b : BoardValue) (c k p : ℕ) → k ≤ height b
+    → is_on_path b c k p ≡ (up b k c == p)
+path_test b c k p low = ap (λ s. s && up b k c == p) (le-leb k (height b) low)
+
+pub both_true : (l k p q : ℕ) → l ≡ k → p ≡ q → (l == k && p == q) ≡ true
+both_true l k p q e f = rw (eq-eqb l k e, eq-eqb p q f) refl
+
+pub both_false : (l k p q : ℕ) → l ≡ k → (p ≡ q → ⊥) → (l == k && p == q) ≡ false
+both_false l k p q e f = rw (eq-eqb l k e, ne_eqb p q f) refl
+
+-- one more level of a path
+pub run_more : (b : BoardValue) (c k : ℕ) (old now new : List (List DomainRow)) (row : DomainRow)
+    → k ≤ height b
+    → ((l p : ℕ) → domain_at now l p ≡ path_on_below b c old k l p)
+    → row ≡ path_on_once (domain_at now k (up b k c))
+    → ((l p : ℕ) → domain_at new l p ≡ cond (l == k && p == up b k c) row (domain_at now l p))
+    → (l p : ℕ) → domain_at new l p ≡ path_on_below b c old (k + 1) l p
+run_more b c k old now new row low before is written l p = elim (cases_eq l k) [
+  | inl e ↦ elim (cases_eq p (up b k c)) [
+    | inl f ↦ written l p
+        ∙ (rw (both_true l k p (up b k c) e f, e, f) (is
+        ∙ ap path_on_once (before k (up b k c) ∙ not_yet b c k old k (up b k c) (omega arith))))
+        ∙ sym (reached b c (k + 1) old l p true (omega (arith, e))
+        (ap (λ m. is_on_path b c m p) e ∙ path_test b c k p low ∙ eq-eqb (up b k c) p (sym f)))
+    | inr f ↦ written l p
+        ∙ (rw (both_false l k p (up b k c) e f) (before l p ∙ not_yet b c k old l p
+        (omega (arith, e))))
+        ∙ sym (reached b c (k + 1) old l p false (omega (arith, e))
+        (ap (λ m. is_on_path b c m p) e ∙ path_test b c k p low
+        ∙ ne_eqb (up b k c) p (λ q. f (sym q))))
+  ]
+  | inr e ↦ written l p
+      ∙ ap (λ t. cond (t && p == up b k c) row (domain_at now l p)) (ne_eqb l k e)
+      ∙ before l p
+      ∙ elim (cases_lt l k) [
+        | inl h ↦ reached b c k old l p (is_on_path b c l p) h refl
+            ∙ sym (reached b c (k + 1) old l p (is_on_path b c l p) (omega arith) refl)
+        | inr h ↦ not_yet b c k old l p h
+            ∙ sym (not_yet b c (k + 1) old l p (omega (arith, e)))
+      ]
+]
+
+-- a whole path: the domains above the board's height are on no path
+pub run_whole : (b : BoardValue) (c : ℕ) (old : List (List DomainRow)) (l p : ℕ)
+    → path_on_below b c old (height b + 1) l p
+    ≡ cond (is_on_path b c l p) (path_on_once (domain_at old l p)) (domain_at old l p)
+run_whole b c old l p = grind arith
+
+-- Kept --------------------------------------------------------------------------------------------
 
 -- a power controller with these rows
 abbrev pub whole : BoardValue → Option ℕ → List CoreRow → List (List DomainRow) → ControllerValue
@@ -129,3 +252,98 @@ deepened_kept b o cs ds new_ds k place depth is shape deep few = record {
   };
   sums = λ l e. record { sums = λ m p low. deep.starts m p ∙ (is.sums l e).sums m p low };
 }
+
+-- The values in the rows after a start of a core, and after the beginning of a life ---------------
+
+-- One start ----------------------------------------------------------------------------------
+
+-- the row of a core after its start
+abbrev pub started_row : List CoreRow → ℕ → Cause → CoreRow
+started_row cs c cause = record { starts = (core_row cs c).starts + 1; cause = cause }
+
+row_starts : (cs : List CoreRow) (c k : ℕ) (cause : Cause) → c < length cs
+    → (core_row (set cs c (started_row cs c cause)) k).starts
+    ≡ one_more (λ m. (core_row cs m).starts) c k
+row_starts cs c k cause h =
+    grind (arith, core_set cs c k (started_row cs c cause) h)
+
+row_cause : (cs : List CoreRow) (c k : ℕ) (cause : Cause) → c < length cs
+    → (core_row (set cs c (started_row cs c cause)) k).cause
+    ≡ with_cause (λ m. (core_row cs m).cause) c cause k
+row_cause cs c k cause h =
+    grind (arith, core_set cs c k (started_row cs c cause) h)
+
+depth_either : (t : Bool) (d : DomainRow) → (cond t (path_on_once d) d).depth ≡ cond t 0 d.depth
+depth_either true d = refl
+depth_either false d = refl
+
+starts_either : (t : Bool) (d : DomainRow) → (cond t (path_on_once d) d).starts
+    ≡ d.starts + cond t 1 0
+starts_either true d = refl
+starts_either false d = omega arith
+
+pub started_values : (b : BoardValue) (cs : List CoreRow) (old new : List (List DomainRow)) (c : ℕ)
+    (cause : Cause) → c < length cs
+    → ((l p : ℕ) → domain_at new l p ≡ path_on_below b c old (height b + 1) l p)
+    → (life : Option ℕ)
+    → values_in life (set cs c (started_row cs c cause)) new
+    ≡ with_start b c cause (values_in life cs old)
+started_values b cs old new c cause h rows life =
+    same_values _ _ refl
+    (λ k. row_starts cs c k cause h) (λ k. row_cause cs c k cause h)
+    (λ l p. ap (λ (d : DomainRow). d.depth) (rows l p ∙ run_whole b c old l p)
+    ∙ depth_either (is_on_path b c l p) (domain_at old l p))
+
+pub started_sums : (b : BoardValue) (cs : List CoreRow) (old new : List (List DomainRow)) (c : ℕ)
+    (cause : Cause) → SumLaws b → c < cores b → c < length cs → HasSums b cs old
+    → ((l p : ℕ) → domain_at new l p ≡ path_on_below b c old (height b + 1) l p)
+    → HasSums b (set cs c (started_row cs c cause)) new
+started_sums b cs old new c cause laws inside h before rows = record {
+  sums = λ l p low.
+      let n : Node = record { level = l; place = p } in
+      ap (λ (d : DomainRow). d.starts) (rows l p ∙ run_whole b c old l p)
+      ∙ starts_either (is_on_path b c l p) (domain_at old l p)
+      ∙ ap (λ s. s + cond (is_on_path b c l p) 1 0) (before.sums l p low)
+      ∙ sym (laws.more (λ m. (core_row cs m).starts) c l p inside low)
+      ∙ ap (λ f. starts_below b f n) (λ i k. sym (row_starts cs c k cause h) i);
+}
+
+-- no sum of starts is too large for one more
+pub room : (b : BoardValue) (cs : List CoreRow) (ds : List (List DomainRow)) (l p : ℕ) → SumLaws b
+    → cores b ≤ MOST_CORES → ((k : ℕ) → (core_row cs k).starts < 2 ^ 32) → HasSums b cs ds
+    → l ≤ height b
+    → (domain_at ds l p).starts + 1 < 2 ^ 64
+room b cs ds l p laws few small has low =
+    let n : Node = record { level = l; place = p } in
+    omega (
+      arith,
+      few,
+      has.sums l p low,
+      laws.few (λ k. (core_row cs k).starts) 0xffffffff (λ k. omega (arith, small k)) n,
+    )
+
+-- The beginning of a life --------------------------------------------------------------------
+
+pub off_sums : (b : BoardValue) (n : ℕ) (ds : List (List DomainRow)) → SumLaws b
+    → ((l p : ℕ) → domain_at ds l p ≡ off_domain) → HasSums b (replicate n off_core) ds
+off_sums b n ds laws off = record {
+  sums = λ l p low.
+      let at : Node = record { level = l; place = p } in
+      ap (λ (d : DomainRow). d.starts) (off l p)
+      ∙ sym (laws.none at)
+      ∙ ap (λ f. starts_below b f at)
+      (λ i k. sym (ap (λ (r : CoreRow). r.starts) (off_core_row n k)) i);
+}
+
+boot_cause : (t : Bool) → cond t causes.Boot causes.Boot ≡ causes.Boot
+boot_cause true = refl
+boot_cause false = refl
+
+pub begun_values : (b : BoardValue) (n : ℕ) (ds : List (List DomainRow)) (life : Option ℕ)
+    → ((l p : ℕ) → domain_at ds l p ≡ off_domain)
+    → with_start b 0 causes.Boot (values_in life (replicate n off_core) ds)
+    ≡ record (start_of_life b) { life = life }
+begun_values b n ds life off =
+    same_values _ _ refl
+    (λ k. rw (off_core_row n k) refl) (λ k. rw (off_core_row n k) (boot_cause (k == 0)))
+    (λ l p. rw (off l p) refl)

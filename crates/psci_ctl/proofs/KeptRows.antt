@@ -2,7 +2,7 @@
 -- of two cores; core 3 was started twice, by a wake-up, and its cluster is in retention.
 use Rattle.std.proofs.Common.{◌≡◌, ℕ, List, [], ◌∷◌, Some, refl, ap, ◌++◌, arith}
 use Rattle.psci_board.specs.Board.{BoardValue}
-use Rattle.psci_ctl_spec.specs.psci_abi.declared.format.Format.TheVariants.{Original}
+use Rattle.psci_ctl_spec.specs.psci_abi.declared.registers.Format.TheVariants.{Original}
 use Rattle.psci_ctl_spec.specs.Values.{Values, starts_below}
 use Rattle.psci_messages.specs.declared.start.Cause.TheVariants.{Boot, On, Wake}
 use Rattle.psci_ctl.specs.declared.level.DomainRow.{DomainRow}

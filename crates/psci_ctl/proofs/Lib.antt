@@ -1,12 +1,6 @@
-pub mod Applying
-pub mod Children
-pub mod Kept
+pub mod Walked
 pub mod Loaded
-pub mod Looked
+pub mod Kept
 pub mod SavedFaults
 pub mod SavedWords
-pub mod Sums
-pub mod Started
-pub mod Walked
-pub mod Written
 pub mod KeptRows

@@ -1,26 +1,78 @@
 -- What is loaded, level by level.
-use Rattle.std.proofs.Common.{◌≡◌, ℕ, zero, suc, ◌+◌, ◌<◌, ◌≤◌, ◌==◌, Bool, false}
-use Rattle.std.proofs.Common.{List, [], ◌∷◌, length, take, drop, get_or, refl, ap, sym, ◌∙◌, arith}
-use Rattle.std.proofs.Common.{Some, sum, subst, inl, inr, flat_map, ◌++◌}
-use Rattle.std.proofs.Math.ListN.{set, length-set}
+use Rattle.std.specs.List.{filter, list_all, range_with_len, sum_by}
+use Rattle.std.specs.Prelude.{nat_le}
+use Rattle.std.proofs.Common.{◌&&◌, ◌++◌, ◌+◌, ◌-◌, ◌<◌, ◌==◌, ◌∙◌, ◌∷◌, ◌≡◌, ◌≤◌, [], ap, arith}
+use Rattle.std.proofs.Common.{Bool, drop, false, flat_map, get_or, inl, inr, length, List, refl}
+use Rattle.std.proofs.Common.{Some, subst, suc, sum, sym, take, zero, ℕ}
+use Rattle.std.proofs.Math.ListN.{length-set, set}
+use Rattle.std.proofs.lemmas.Bool.{cases_eq, cases_lt, ltb-true, ne_eqb}
+use Rattle.std.proofs.lemmas.Grind.{flat_map-append}
 use Rattle.std.proofs.lemmas.List.{append-nil, append_assoc, drop_more, get_or-set_other}
 use Rattle.std.proofs.lemmas.List.{get_or-set_same, get_or_past, take-append-drop, take_more_set}
-use Rattle.std.proofs.lemmas.Bool.{cases_eq, cases_lt, ne_eqb}
-use Rattle.std.proofs.lemmas.Grind.{flat_map-append}
 use Rattle.std.proofs.lemmas.List.Concat.{flat_map-cons}
 use Rattle.std.proofs.lemmas.List.Sums.{sum_by-cons}
 use Rattle.std.proofs.lemmas.Option.{cond_some}
-use Rattle.std.specs.List.{filter, range_with_len, sum_by}
-use Rattle.psci_board.specs.Board.{BoardValue, HasNode, cores, cores_below, has_node, height}
-use Rattle.psci_board.specs.Board.{nodes, size_below, span, up}
-use Rattle.psci_board.specs.Laws.{PathLaws, SpanLaws}
+use Rattle.psci_board.specs.Board.{BoardValue, child, ChildLaws, children, children_at, cores}
+use Rattle.psci_board.specs.Board.{cores_below, first_child, has_node, HasNode, height, nodes}
+use Rattle.psci_board.specs.Board.{PathLaws, size_below, span, SpanLaws, up}
+use Rattle.psci_board.specs.declared.draft.Node.{Node}
 use Rattle.psci_board.specs.declared.span.CoreSpan.{CoreSpan}
-use Rattle.psci_board.specs.declared.node.Node.{Node}
 use Rattle.psci_ctl_spec.specs.Values.{starts_below}
-use Rattle.psci_ctl.specs.declared.row.CoreRow.{CoreRow}
-use Rattle.psci_ctl.specs.declared.level.DomainRow.{DomainRow}
-use Rattle.psci_ctl.specs.Rows.{HasRows, HasSums, core_row, domain_at, off_core, off_domain}
+use Rattle.psci_ctl.specs.Rows.{core_row, domain_at, HasRows, HasSums, off_core, off_domain}
 use Rattle.psci_ctl.specs.Saved.{depths, level_sizes}
+use Rattle.psci_ctl.specs.declared.level.DomainRow.{DomainRow}
+use Rattle.psci_ctl.specs.declared.row.CoreRow.{CoreRow}
+
+-- The children of a domain, which stand side by side ----------------------------------------------
+
+-- rows that stand side by side are deep where those of their places are
+pub all_rows : (rows : List DomainRow) (least a n : ℕ) → a + n ≤ length rows
+    → list_all (λ (r : DomainRow). nat_le least r.depth) (take n (drop a rows))
+    ≡ list_all (λ p. nat_le least (get_or rows p off_domain).depth) (range_with_len a n)
+all_rows rows least a zero h = refl
+all_rows rows least a (suc n) h =
+    ap (λ (ds : List DomainRow). list_all (λ (r : DomainRow). nat_le least r.depth)
+    (take (suc n) ds)) (drop_more rows a off_domain (omega (arith, h)))
+    ∙ ap (λ t. nat_le least (get_or rows a off_domain).depth && t)
+    (all_rows rows least (a + 1) n (omega (arith, h)))
+
+abbrev at_place : ℕ → ℕ → Node
+at_place level place = record { level = level; place = place }
+
+-- the first child, where there is one
+pub first_is : (b : BoardValue) (n m : Node) → child b n 0 ≡ Some m → (0 < children b n)
+    × (m ≡ record { level = n.level - 1; place = first_child b n.level n.place })
+first_is b n m e =
+    let is = cond_some _ _ _ e in
+    let first : ℕ = first_child b n.level n.place in
+    let place : first + 0 ≡ first = omega arith in (
+      ltb-true _ _ is.0,
+      sym is.1 ∙ ap (at_place (n.level - 1)) place,
+    )
+
+-- the rows of its children are there
+pub rows_fit : {b : BoardValue} {levels : List (List DomainRow)} (n m : Node) → ChildLaws b
+    → HasNode b n → HasRows b levels → child b n 0 ≡ Some m
+    → m.place + children b n ≤ length (get_or levels m.level [])
+rows_fit {b} {levels} n m laws node shape e =
+    let is = first_is b n m e in
+    let up : suc m.level ≡ n.level = omega (arith, laws.child_level n m 0 e) in
+    let low : m.level < height b = omega (arith, up, node.level) in
+    let some : 0 < children_at b (suc m.level) n.place =
+    subst (λ l. 0 < children_at b l n.place) (sym up) is.0 in
+    let last : first_child b n.level n.place + (children b n - 1) < nodes b m.level =
+    subst (λ l. first_child b l n.place + (children_at b l n.place - 1) < nodes b m.level) up
+    (laws.inside m.level n.place (children_at b (suc m.level) n.place - 1) low
+    (omega (arith, some))) in
+    omega (
+      arith,
+      is.0,
+      last,
+      ap (λ (x : Node). x.place) is.1,
+      shape.places m.level (omega (arith, low)),
+    )
+
+-- Loaded ------------------------------------------------------------------------------------------
 
 -- Sums ---------------------------------------------------------------------------------------
 

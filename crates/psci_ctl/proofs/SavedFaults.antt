@@ -1,30 +1,28 @@
 -- Words that were saved have no fault, and words without a fault are such.
-use Rattle.std.proofs.Common.{◌≡◌, ℕ, ◌+◌, ◌/◌, ◌<◌, ◌≤◌, ◌==◌, ◌||◌, Bool}
-use Rattle.std.proofs.Common.{true, false, cond, not, List, [], ◌∷◌, ◌++◌, length, map, take, drop}
-use Rattle.std.proofs.Common.{get_or, flat_map, Option, Some, None, refl, ap, sym, ◌∙◌}
-use Rattle.std.proofs.Common.{arith, ◌-◌, ◌^◌}
-use Rattle.std.specs.Prelude.{nat_le, nat_lt}
 use Rattle.std.specs.List.{All, list_all}
+use Rattle.std.specs.Prelude.{nat_le, nat_lt}
+use Rattle.std.proofs.Common.{◌%◌, ◌*◌, ◌++◌, ◌+◌, ◌-◌, ◌/◌, ◌<◌, ◌==◌, ◌^◌, ◌||◌, ◌∙◌, ◌∷◌, ◌≡◌}
+use Rattle.std.proofs.Common.{◌≤◌, [], ap, arith, Bool, cond, drop, false, flat_map, get_or}
+use Rattle.std.proofs.Common.{length, List, map, None, not, Option, refl, set, Some, suc, sym}
+use Rattle.std.proofs.Common.{take, true, zero, ℕ}
 use Rattle.std.proofs.Math.Seq.{drop-append_seam, take-append_seam}
-use Rattle.std.proofs.lemmas.Bool.{and_from, and_parts, eq-eqb, eqb-true}
-use Rattle.std.proofs.lemmas.Bool.{leb-true}
-use Rattle.std.proofs.lemmas.Bool.{lt-ltb, ltb-false, ltb-true, ne_eqb, not-false, le-ltb}
-use Rattle.std.proofs.lemmas.List.{length-append, length-map, length-take-le, take-append-drop}
-use Rattle.std.proofs.lemmas.List.{take_all}
+use Rattle.std.proofs.lemmas.Bool.{and_from, and_parts, eq-eqb, eqb-true, le-ltb, leb-true}
+use Rattle.std.proofs.lemmas.Bool.{lt-ltb, ltb-false, ltb-true, ne_eqb, not-false}
+use Rattle.std.proofs.lemmas.List.{length-append, length-map, length-set, length-take-le}
+use Rattle.std.proofs.lemmas.List.{take-append-drop, take_all}
 use Rattle.std.proofs.lemmas.List.Sums.{AllPass-from_list_all}
 use Rattle.std.proofs.lemmas.Option.{none-some}
-use Rattle.psci_board.specs.Board.{BoardValue, IsBoard, cores, height, nodes}
-use Rattle.psci_ctl_spec.proofs.OneMore.{same_values}
+use Rattle.psci_board.specs.Board.{BoardValue, cores, height, IsBoard, nodes}
+use Rattle.psci_ctl_spec.proofs.Steps.{same_values}
+use Rattle.psci_ctl.specs.Rows.{core_row, HasRows, HasSums}
+use Rattle.psci_ctl.specs.Saved.{are_starts, core_of, core_word, depths, life_of, life_word}
+use Rattle.psci_ctl.specs.Saved.{row_count, row_words, saved, saved_fault, sum_from}
+use Rattle.psci_ctl.specs.Seen.{ControllerValue, IsController, seen}
 use Rattle.psci_ctl.specs.declared.fault.SavedFault.{SavedFault}
 use Rattle.psci_ctl.specs.declared.fault.SavedFault.TheVariants as faults
 use Rattle.psci_ctl.specs.declared.level.DomainRow.{DomainRow}
 use Rattle.psci_ctl.specs.declared.row.CoreRow.{CoreRow}
-use Rattle.psci_ctl.specs.declared.saving.TheConstants.{FORMAT}
-use Rattle.psci_ctl.specs.Rows.{HasRows, HasSums, core_row}
-use Rattle.psci_ctl.specs.Saved.{are_starts, core_of, core_word, depths}
-use Rattle.psci_ctl.specs.Saved.{life_of, life_word, row_count, row_words, saved}
-use Rattle.psci_ctl.specs.Saved.{saved_fault, sum_from}
-use Rattle.psci_ctl.specs.Seen.{ControllerValue, IsController, seen}
+use Rattle.psci_ctl.specs.declared.saving.TheConstants.{FACTOR, FORMAT}
 use Rattle.psci_ctl.proofs.Kept.{whole}
 use Rattle.psci_ctl.proofs.SavedWords.{all_deep, all_depths, are_few, few_starts, first_starts}
 use Rattle.psci_ctl.proofs.SavedWords.{first_word, is_depth, life_back, many_depths, no_life}
@@ -258,3 +256,94 @@ module _ (b : BoardValue) (ws : List ℕ) (board : IsBoard b) (s : IsSaved b ws)
       ∙ ap (λ xs. take (cores b) s.rows ++ xs) flat
       ∙ take-append-drop (cores b) s.rows))
       ∙ sym s.is
+
+-- The sum of words tells each of them: no other word in one place has the same sum ----------------
+
+-- one word more tells the sum before it
+step_back : (s t w : ℕ) → s < 2 ^ 64 → t < 2 ^ 64
+    → (s * FACTOR + w) % 2 ^ 64 ≡ (t * FACTOR + w) % 2 ^ 64 → s ≡ t
+step_back s t w low few e = omega (arith, low, few, e)
+
+-- and that word
+word_again : (s w v : ℕ) → w < 2 ^ 64 → v < 2 ^ 64
+    → (s * FACTOR + w) % 2 ^ 64 ≡ (s * FACTOR + v) % 2 ^ 64 → w ≡ v
+word_again s w v low few e = omega (arith, low, few, e)
+
+few_sum : (n : ℕ) → n % 2 ^ 64 < 2 ^ 64
+few_sum n = omega arith
+
+sum_back : (ws : List ℕ) (s t : ℕ) → s < 2 ^ 64 → t < 2 ^ 64
+    → sum_from s ws ≡ sum_from t ws → s ≡ t
+sum_back [] s t low few e = e
+sum_back (w ∷ ws) s t low few e =
+    step_back s t w low few (sum_back ws _ _ (few_sum _) (few_sum _) e)
+
+abbrev AreWords : List ℕ → Type 0
+AreWords ws = All (λ w. w < 2 ^ 64) ws
+
+-- another word in a place
+other_word : (ws : List ℕ) (s k w : ℕ) → AreWords ws → k < length ws → w < 2 ^ 64
+    → sum_from s (set ws k w) ≡ sum_from s ws → w ≡ get_or ws k 0
+other_word [] s k w all low few e = absurd (omega (arith, low))
+other_word (v ∷ ws) s zero w all low few e =
+    word_again s w v few (all 0 0 low) (sum_back ws _ _ (few_sum _) (few_sum _) e)
+other_word (v ∷ ws) s (suc k) w all low few e =
+    other_word ws _ k w (λ j d h. all (suc j) d (omega (arith, h))) (omega (arith, low)) few e
+
+sum_says : (b : BoardValue) (ws : List ℕ) → IsSaved b ws → get_or ws 1 0 ≡ sum_from 0 (drop 2 ws)
+sum_says b ws s =
+    ap (λ xs. get_or xs 1 0) s.is ∙ ap (λ xs. sum_from 0 xs) (sym (ap (λ xs. drop 2 xs) s.is))
+
+-- no two without a fault differ in one word
+pub one_word : (b : BoardValue) (ws : List ℕ) (k w : ℕ) → AreWords ws → k < length ws
+    → w < 2 ^ 64 → saved_fault b ws ≡ None → saved_fault b (set ws k w) ≡ None → w ≡ get_or ws k 0
+unfolding saved_fault
+one_word b [] k w all low few e f = absurd (omega (arith, low))
+one_word b (g ∷ []) k w all low few e f = absurd (none-some faults.Length (sym e))
+one_word b (g ∷ s ∷ []) k w all low few e f = absurd (none-some faults.Length (sym e))
+one_word b (g ∷ s ∷ life ∷ rows) zero w all low few e f =
+    ap (λ xs. get_or xs 0 0) (is_saved b (w ∷ s ∷ life ∷ rows) f).is
+    ∙ sym (ap (λ xs. get_or xs 0 0) (is_saved b (g ∷ s ∷ life ∷ rows) e).is)
+one_word b (g ∷ s ∷ life ∷ rows) (suc zero) w all low few e f =
+    sum_says b (g ∷ w ∷ life ∷ rows) (is_saved b (g ∷ w ∷ life ∷ rows) f)
+    ∙ sym (sum_says b (g ∷ s ∷ life ∷ rows) (is_saved b (g ∷ s ∷ life ∷ rows) e))
+one_word b (g ∷ s ∷ life ∷ rows) (suc (suc k)) w all low few e f =
+    let words = life ∷ rows in
+    other_word words 0 k w (λ j d h. all (suc (suc j)) d (omega (arith, h)))
+    (omega (arith, low)) few
+    (sym (sum_says b (g ∷ s ∷ set words k w) (is_saved b (g ∷ s ∷ set words k w) f))
+    ∙ sum_says b (g ∷ s ∷ words) (is_saved b (g ∷ s ∷ words) e))
+
+-- Words as they are written, one part behind the other --------------------------------------------
+
+abbrev headed : List ℕ → ℕ → List ℕ
+headed w life = set (set (set w 0 FORMAT) 1 0) 2 life
+
+heading : (w : List ℕ) (life : ℕ) → 3 ≤ length w
+    → take 3 (headed w life) ≡ FORMAT ∷ 0 ∷ life ∷ []
+heading [] life h = absurd (omega (arith, h))
+heading (a ∷ []) life h = absurd (omega (arith, h))
+heading (a ∷ b ∷ []) life h = absurd (omega (arith, h))
+heading (a ∷ b ∷ d ∷ w) life h = refl
+
+pub written : (w own_written all_written : List ℕ) (life sum n : ℕ) (own deep : List ℕ)
+    → length w ≡ 3 + n + length deep → length all_written ≡ length (headed w life)
+    → take (3 + n) own_written ≡ take 3 (headed w life) ++ own
+    → take (3 + n + length deep) all_written ≡ take (3 + n) own_written ++ deep
+    → sum ≡ sum_from 0 (take (length all_written - 2) (drop 2 all_written))
+    → set all_written 1 sum
+    ≡ FORMAT ∷ sum_from 0 (life ∷ own ++ deep) ∷ life ∷ own ++ deep
+written w v u life sum n own deep long same first second is =
+    let many : length u ≡ length w =
+    same ∙ length-set (set (set w 0 FORMAT) 1 0) 2 life ∙ length-set (set w 0 FORMAT) 1 0
+    ∙ length-set w 0 FORMAT in
+    let whole : u ≡ FORMAT ∷ 0 ∷ life ∷ own ++ deep =
+    sym (take_all (3 + n + length deep) u (omega (arith, long, many)))
+    ∙ second ∙ ap (λ xs. xs ++ deep) first
+    ∙ ap (λ xs. (xs ++ own) ++ deep) (heading w life (omega (arith, long))) in
+    let rest : take (length u - 2) (drop 2 u) ≡ life ∷ own ++ deep =
+    ap (λ xs. take (length u - 2) (drop 2 xs)) whole
+    ∙ take_all (length u - 2) (life ∷ own ++ deep)
+    (omega (arith, ap (λ xs. length xs) whole)) in
+    ap (λ xs. set xs 1 sum) whole
+    ∙ ap (λ s. FORMAT ∷ s ∷ life ∷ own ++ deep) (is ∙ ap (λ xs. sum_from 0 xs) rest)

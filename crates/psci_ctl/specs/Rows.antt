@@ -1,14 +1,12 @@
 -- What the power controller keeps of cores and domains, row by row.
-use Rattle.std.specs.Prelude.{◌≡◌, ℕ, ◌+◌, ◌<◌, ◌≤◌, ◌^◌, ◌&&◌, ◌==◌, nat_lt, if◌then◌else◌, List}
-use Rattle.std.specs.Prelude.{[], length, slice_index_or, Option}
-use Rattle.psci_board.specs.Board.{BoardValue, cores, height, nodes}
-use Rattle.psci_board.specs.declared.node.Node.{Node}
-use Rattle.psci_messages.specs.psci_state.Ask.{power_down, running}
+use Rattle.std.specs.Prelude.{◌&&◌, ◌+◌, ◌<◌, ◌==◌, ◌^◌, ◌≡◌, ◌≤◌, [], if◌then◌else◌, length}
+use Rattle.std.specs.Prelude.{List, nat_lt, Option, slice_index_or, ℕ}
+use Rattle.psci_board.specs.Board.{BoardValue, cores, domain_of, height, is_on_path, nodes}
+use Rattle.psci_board.specs.declared.draft.Node.{Node}
+use Rattle.psci_messages.specs.psci_state.PowerState.{power_down, running}
 use Rattle.psci_messages.specs.declared.part.Part.{Part}
-use Rattle.psci_board.specs.Board.{domain_of}
 use Rattle.psci_messages.specs.declared.start.Cause.TheVariants as causes
 use Rattle.psci_ctl_spec.specs.Values.{Values, starts_below}
-use Rattle.psci_board.specs.Paths.{is_on_path}
 use Rattle.psci_ctl.specs.declared.row.CoreRow.{CoreRow}
 use Rattle.psci_ctl.specs.declared.level.DomainRow.{DomainRow}
 

@@ -1,11 +1,10 @@
 -- A power controller as words of 64 bits, and the first fault of words that are none.
-use Rattle.std.specs.Prelude.{ℕ, ◌+◌, ◌*◌, ◌/◌, ◌%◌, ◌^◌, ◌==◌, ◌||◌, ◌&&◌, nat_lt, nat_le, Bool}
-use Rattle.std.specs.Prelude.{not}
-use Rattle.std.specs.Prelude.{List, [], ◌∷◌, ◌++◌, length, map, take, drop, sum, flat_map}
-use Rattle.std.specs.Prelude.{if◌then◌else◌, Option, None, Some, slice_index}
+use Rattle.std.specs.Prelude.{◌%◌, ◌&&◌, ◌*◌, ◌++◌, ◌+◌, ◌/◌, ◌==◌, ◌^◌, ◌||◌, ◌∷◌, [], Bool}
+use Rattle.std.specs.Prelude.{drop, flat_map, if◌then◌else◌, length, List, map, nat_le, nat_lt}
+use Rattle.std.specs.Prelude.{None, not, Option, slice_index, Some, sum, take, ℕ}
 use Rattle.std.specs.List.{list_all}
 use Rattle.psci_board.specs.Board.{BoardValue, cores, size_below}
-use Rattle.psci_messages.specs.psci_state.Ask.{power_down}
+use Rattle.psci_messages.specs.psci_state.PowerState.{power_down}
 use Rattle.psci_messages.specs.declared.start.Cause.{Cause}
 use Rattle.psci_messages.specs.declared.start.Cause.TheVariants as causes
 use Rattle.psci_ctl.specs.declared.fault.SavedFault.{SavedFault}

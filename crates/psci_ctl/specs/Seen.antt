@@ -2,7 +2,7 @@
 -- domain.
 use Rattle.std.specs.Prelude.{◌≡◌, ℕ, Bool, true, false, List, length, Option, Some}
 use Rattle.psci_board.specs.Board.{BoardValue, IsBoard, cores}
-use Rattle.psci_ctl_spec.specs.Follows.{AreValues}
+use Rattle.psci_ctl_spec.specs.History.{AreValues}
 use Rattle.psci_ctl_spec.specs.Values.{Values}
 use Rattle.psci_ctl.specs.declared.row.CoreRow.{CoreRow}
 use Rattle.psci_ctl.specs.declared.done.Done.{Done}

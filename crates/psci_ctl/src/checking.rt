@@ -1,9 +1,9 @@
 //! Whether words are a saved power controller.
 
-ghost use Rattle.std.specs.Prelude.{◌≡◌, ◌==◌, ◌≤◌, ◌+◌, ℕ, None, Some, MatchResult, length};
-ghost use Rattle.std.specs.Prelude.{◌/◌, ◌^◌, nat_le, if◌then◌else◌};
+ghost use Rattle.std.specs.Prelude.{◌+◌, ◌/◌, ◌==◌, ◌^◌, ◌≡◌, ◌≤◌, if◌then◌else◌, length};
+ghost use Rattle.std.specs.Prelude.{MatchResult, nat_le, None, Some, ℕ};
 ghost use Rattle.std.specs.List.{list_all};
-ghost use Rattle.psci_messages.specs.psci_state.Ask.{power_down};
+ghost use Rattle.psci_messages.specs.psci_state.PowerState.{power_down};
 ghost use Rattle.psci_board.specs.Board.{IsBoard, cores};
 ghost use Rattle.psci_ctl.specs.Saved.{are_starts, level_sizes, row_count, row_fault, saved_fault};
 

@@ -45,9 +45,9 @@ impl Model for Controller {
 
 ghost use Rattle.std.specs.Prelude.{◌≡◌, ◌<◌, ◌≤◌, ◌+◌, Option, None, Some, length, IfOk, IsSome};
 ghost use Rattle.psci_board.specs.Board.{HasNode, cores};
-ghost use Rattle.psci_ctl_spec.specs.Changes.{after, change, with_start};
-ghost use Rattle.psci_ctl_spec.specs.Legal.{IsOfBoard};
-ghost use Rattle.psci_ctl_spec.specs.Replies.{last_start, next_start, reply};
+ghost use Rattle.psci_ctl_spec.specs.Replies.{after, change, last_start, next_start, reply};
+ghost use Rattle.psci_ctl_spec.specs.Replies.{with_start};
+ghost use Rattle.psci_ctl_spec.specs.History.{IsOfBoard};
 ghost use Rattle.psci_ctl_spec.specs.Values.{start_of_life};
 ghost use Rattle.psci_ctl_spec.specs.declared.call.CtlCall.TheVariants as calls;
 ghost use Rattle.psci_ctl_spec.specs.declared.delivery.Delivery.TheVariants as deliveries;

@@ -2,7 +2,7 @@
 
 ghost use Rattle.std.specs.Prelude.{◌≡◌};
 ghost use Rattle.psci_board.specs.Board.{HasNode};
-ghost use Rattle.psci_ctl_spec.specs.Parts.{is_covered};
+ghost use Rattle.psci_ctl_spec.specs.Values.{is_covered};
 ghost use Rattle.psci_ctl.specs.Rows.{depth_in, HasRows};
 
 use crate::level::Level;

@@ -1,17 +1,15 @@
 //! What the power controller does with a message of this life.
 
-ghost use Rattle.std.specs.Prelude.{◌≡◌, ◌≤◌, ◌+◌, ◌<◌, ◌==◌, ℕ, true, Some, take, length};
-ghost use Rattle.std.specs.Prelude.{if◌then◌else◌, nat_lt};
+ghost use Rattle.std.specs.Prelude.{◌+◌, ◌<◌, ◌==◌, ◌≡◌, ◌≤◌, if◌then◌else◌, length, nat_lt, Some};
+ghost use Rattle.std.specs.Prelude.{take, true, ℕ};
 ghost use Rattle.psci_board.specs.Board.{cores, domain_of, height, nodes, path, HasNode};
 ghost use Rattle.psci_messages.specs.Message.{PartByPart, AreClaims, most_applied};
-ghost use Rattle.psci_ctl_spec.specs.Changes.{change, with_start};
-ghost use Rattle.psci_ctl_spec.specs.Effects.{Begins, Ends, message_effect};
-ghost use Rattle.psci_ctl_spec.specs.Legal.{IsOfBoard};
-ghost use Rattle.psci_ctl_spec.specs.Parts.{applied, is_covered, is_stale, laid};
-ghost use Rattle.psci_ctl_spec.specs.Replies.{ack_by, ack_of, may_follow, may_start};
-ghost use Rattle.psci_messages.specs.psci_state.Ask.{power_down};
+ghost use Rattle.psci_ctl_spec.specs.Replies.{ack_by, ack_of, Begins, change, Ends, may_follow};
+ghost use Rattle.psci_ctl_spec.specs.Replies.{may_start, message_effect, with_start};
+ghost use Rattle.psci_ctl_spec.specs.History.{IsOfBoard};
+ghost use Rattle.psci_ctl_spec.specs.Values.{applied, is_covered, is_stale, laid, starts_below};
+ghost use Rattle.psci_messages.specs.psci_state.PowerState.{power_down};
 ghost use Rattle.psci_messages.specs.declared.start.Cause.TheVariants.{On};
-ghost use Rattle.psci_ctl_spec.specs.Values.{starts_below};
 ghost use Rattle.psci_ctl.specs.Rows.{deepened};
 ghost use Rattle.psci_ctl.specs.Seen.{done, seen, start_done, Leaves};
 

@@ -1,7 +1,7 @@
 //! The power domains of a board, level by level.
 
-ghost use Rattle.std.specs.Prelude.{◌≡◌, ◌+◌, ◌<◌, ◌≤◌, ◌^◌, ℕ, [], length, IfOk};
-ghost use Rattle.std.specs.Prelude.{slice_index_or, slice_set};
+ghost use Rattle.std.specs.Prelude.{◌+◌, ◌<◌, ◌^◌, ◌≡◌, ◌≤◌, [], IfOk, length, slice_index_or};
+ghost use Rattle.std.specs.Prelude.{slice_set, ℕ};
 ghost use Rattle.psci_board.specs.Board.{HasNode, cores, height, up};
 ghost use Rattle.psci_ctl.specs.Rows.{domain_at, off_domain, path_on_below, HasRows};
 

@@ -39,10 +39,8 @@ impl Model for Level {
     ghost view = { λ l. l.rows.items };
 }
 
-ghost use Rattle.std.specs.Prelude.{◌≡◌, ◌<◌, ◌≤◌, ◌+◌, ◌++◌, nat_le, length, take, drop};
-ghost use Rattle.std.specs.Prelude.{replicate};
-ghost use Rattle.std.specs.Prelude.{slice_index_or, slice_set, IfOk};
-ghost use Rattle.std.specs.Prelude.{ℕ};
+ghost use Rattle.std.specs.Prelude.{◌++◌, ◌+◌, ◌<◌, ◌≡◌, ◌≤◌, drop, IfOk, length, nat_le};
+ghost use Rattle.std.specs.Prelude.{replicate, slice_index_or, slice_set, take, ℕ};
 ghost use Rattle.std.specs.List.{All, list_all};
 ghost use Rattle.psci_board.specs.Board.{IsBoard, cores, height, nodes};
 ghost use Rattle.psci_ctl_spec.specs.Values.{starts_below};

@@ -23,6 +23,6 @@ pub use loading::law_saved;
 pub use psci_board::{Board, Core, Memory, Node};
 pub use psci_ctl_spec::{
     Cause, CtlCall, CtlReply, Delivery, Kick, Start, law_acknowledgements, law_depths, law_limits,
-    law_nesting, law_one_reply, law_past, law_replies, law_start, law_sums, law_values,
+    law_one_reply, law_past, law_replies, law_values,
 };
 pub use psci_messages::{Ack, Kind, Message, Part, Parts};

@@ -1,10 +1,8 @@
 //! Words, as they are loaded into a power controller.
 
-ghost use Rattle.std.specs.Prelude.{◌≡◌, ◌<◌, ◌≤◌, ◌+◌, ◌/◌, ◌^◌, ◌++◌, ℕ, None, Some, [], map};
-ghost use Rattle.std.specs.Prelude.{sum};
-ghost use Rattle.std.specs.Prelude.{List, flat_map, length, slice_index, slice_index_or, slice_set};
-ghost use Rattle.std.specs.Prelude.{take, drop};
-ghost use Rattle.std.specs.Prelude.{IfOk, MatchResult, OnErr};
+ghost use Rattle.std.specs.Prelude.{◌++◌, ◌+◌, ◌/◌, ◌<◌, ◌^◌, ◌≡◌, ◌≤◌, [], drop, flat_map, IfOk};
+ghost use Rattle.std.specs.Prelude.{length, List, map, MatchResult, None, OnErr, slice_index};
+ghost use Rattle.std.specs.Prelude.{slice_index_or, slice_set, Some, sum, take, ℕ};
 ghost use Rattle.std.specs.List.{All, sum_by};
 ghost use Rattle.psci_board.specs.Board.{BoardValue, HasNode, IsBoard, cores, height, nodes};
 ghost use Rattle.psci_ctl_spec.specs.Values.{starts_below};

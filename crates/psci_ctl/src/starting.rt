@@ -2,7 +2,7 @@
 
 ghost use Rattle.std.specs.Prelude.{◌≡◌, ◌<◌, ℕ, length, Option};
 ghost use Rattle.psci_board.specs.Board.{cores};
-ghost use Rattle.psci_ctl_spec.specs.Changes.{with_start};
+ghost use Rattle.psci_ctl_spec.specs.Replies.{with_start};
 ghost use Rattle.psci_ctl_spec.specs.Values.{start_of_life};
 ghost use Rattle.psci_ctl.specs.Rows.{values_in, AreRows, HasRows, HaveRoom};
 
@@ -10,7 +10,7 @@ use crate::domains::{run_path, turn_off};
 use crate::level::Level;
 use crate::row::{CoreRow, forget_starts};
 use psci_board::{Board, Core, law_sizes};
-use psci_ctl_spec::{Cause, law_sums};
+use psci_ctl_spec::Cause;
 
 /// The core that a life begins with.
 const BOOT_CORE: Core = Core { number: 0 };
@@ -31,7 +31,6 @@ pub fn start_core(
         ≡ with_start board.now core.number cause (values_in life rows.old levels.old) }
 {
     law_sizes();
-    law_sums();
     let cores = board.cores();
     prove!(core.number < cores);
     run_path(levels, board, core);
@@ -51,7 +50,6 @@ pub fn begin_life(board: &Board, rows: &mut [CoreRow], levels: &mut [Level])
         ≡ record (start_of_life board.now) { life = life } }
 {
     law_sizes();
-    law_sums();
     let cores = board.cores();
     prove!(0 < cores);
     forget_starts(rows);

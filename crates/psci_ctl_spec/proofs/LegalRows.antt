@@ -1,7 +1,7 @@
 -- Worked examples: a legal history, and for each way to be wrong one that is not; a part that is
 -- past; and why a domain can be deeper than one below it.
-use Rattle.std.proofs.Common.{◌≡◌, ℕ, true, false, List, [], ◌∷◌, refl, arith, map}
-use Rattle.std.proofs.Common.{lit<, lit≤, Bool, ap}
+use Rattle.std.proofs.Common.{◌∷◌, ◌≡◌, [], ap, arith, Bool, false, List, lit<, lit≤, map, refl}
+use Rattle.std.proofs.Common.{true, ℕ}
 use Rattle.std.proofs.lemmas.Bool.{true≢false}
 use Rattle.psci_board.specs.Board.{BoardValue}
 use Rattle.psci_messages.specs.declared.kind.Kind.TheVariants.{Down}
@@ -9,13 +9,11 @@ use Rattle.psci_ctl_spec.specs.declared.call.CtlCall.{CtlCall}
 use Rattle.psci_ctl_spec.specs.declared.delivery.Delivery.TheVariants.{Applied}
 use Rattle.psci_ctl_spec.specs.declared.reply.CtlReply.{CtlReply}
 use Rattle.psci_ctl_spec.specs.declared.reply.CtlReply.TheVariants as replies
-use Rattle.psci_ctl_spec.specs.Exchange.{CtlExchange}
-use Rattle.psci_ctl_spec.specs.History.{depth}
-use Rattle.psci_ctl_spec.specs.Lasting.{IsLive}
-use Rattle.psci_ctl_spec.specs.Legal.{IsCall, IsLegal}
+use Rattle.psci_ctl_spec.specs.Values.{CtlExchange}
+use Rattle.psci_ctl_spec.specs.History.{depth, IsCall, IsLegal, IsLive}
 use Rattle.psci_ctl_spec.specs.Replies.{reply}
-use Rattle.psci_ctl_spec.proofs.Steps.{ack, board, board_of, down, history_of, ignored, part}
-use Rattle.psci_ctl_spec.proofs.Steps.{computing, start, not_started, wake}
+use Rattle.psci_ctl_spec.proofs.Steps.{ack, board, board_of, computing, down, history_of}
+use Rattle.psci_ctl_spec.proofs.Steps.{ignored, not_started, part, start, wake}
 
 -- one exchange
 abbrev replied : CtlCall → CtlReply → List CtlExchange → List CtlExchange

@@ -1,24 +1,57 @@
 -- The sum of the starts below a domain, which domains are on the path of a core, and what a start
 -- of a core changes of depths and generations.
-use Rattle.std.proofs.Common.{◌*◌, ◌+◌, ◌<◌, ◌==◌, ◌∙◌, ◌∷◌, ◌≡◌, ◌≤◌, add-zero, ap, arith, Bool}
-use Rattle.std.proofs.Common.{cond, false, filter, inl, inr, List, refl, suc, sym, true, zero, ℕ}
-use Rattle.std.proofs.lemmas.Bool.{cases_eq, eq-eqb, eqb-true, ne_eqb}
-use Rattle.std.proofs.lemmas.Bool.Decides.{nat_tests}
 use Rattle.std.specs.List.{range_with_len, sum_by}
-use Rattle.std.proofs.lemmas.List.Sums.{sum_by-cons}
-use Rattle.psci_board.specs.Board.{BoardValue, cores, height, place_above, up}
-use Rattle.psci_board.specs.Paths.{is_on_path}
-use Rattle.psci_board.specs.declared.node.Node.{Node}
-use Rattle.psci_ctl_spec.specs.Changes.{one_more}
-use Rattle.psci_ctl_spec.specs.Values.{starts_below, Values}
-use Rattle.psci_messages.specs.declared.start.Cause.{Cause}
-use Rattle.psci_ctl_spec.specs.Laws.{StartLaws, SumLaws}
+use Rattle.std.specs.Prelude.{slice_get}
+use Rattle.std.proofs.Common.{◌*◌, ◌++◌, ◌+◌, ◌<◌, ◌==◌, ◌∙◌, ◌∷◌, ◌≡◌, ◌≤◌, ◌⊎◌, [], ap, arith}
+use Rattle.std.proofs.Common.{Bool, cond, drop, false, filter, inl, inr, List, None, Option}
+use Rattle.std.proofs.Common.{refl, Some, suc, sym, true, zero, ℕ}
+use Rattle.std.proofs.lemmas.Bool.{cases_eq, eq-eqb, eqb-true, ne_eqb, true≢false}
+use Rattle.std.proofs.lemmas.Bool.Decides.{nat_tests}
+use Rattle.std.proofs.lemmas.List.Sums.{prefix_len-le-length, sum_by-cons}
+use Rattle.psci_board.specs.Board.{BoardValue, cores, domain_of, height, is_on_path, place_above}
+use Rattle.psci_board.specs.Board.{up}
+use Rattle.psci_board.specs.declared.draft.Node.{Node}
+use Rattle.psci_messages.specs.declared.part.Part.{Part}
+use Rattle.psci_ctl_spec.specs.Replies.{Effect, one_more}
+use Rattle.psci_ctl_spec.specs.Values.{applied, begins_stale, CtlExchange, is_applied, is_live}
+use Rattle.psci_ctl_spec.specs.Values.{is_stale, starts_below, Values}
+use Rattle.psci_ctl_spec.specs.History.{AckLaws, effect_in, IsLive, life, life_by, starts}
+use Rattle.psci_ctl_spec.specs.History.{starts_by, SumLaws}
+
+-- What the acknowledgement of a Down says of its parts --------------------------------------------
+
+late_at : (b : BoardValue) (v : Values) (c n : ℕ) (ps : List Part)
+    → begins_stale b v c (drop n ps) ≡ true
+    → (p : Part) × (slice_get ps n ≡ Some p) × (is_live b v c p ≡ false)
+late_at b v c zero [] e = absurd (cc e)
+late_at b v c (suc n) [] e = absurd (cc e)
+late_at b v c zero (p ∷ ps) e = (p, refl, grind arith)
+late_at b v c (suc n) (p ∷ ps) e = late_at b v c n ps e
+
+live_at : (b : BoardValue) (v : Values) (c n : ℕ) (ps : List Part) (p : Part)
+    → begins_stale b v c (drop n ps) ≡ false → slice_get ps n ≡ Some p
+    → is_live b v c p ≡ true
+live_at b v c n [] p e at = absurd (grind arith)
+live_at b v c zero (q ∷ ps) p e at = grind arith
+live_at b v c (suc n) (q ∷ ps) p e at = live_at b v c n ps p e at
+
+pub ack_laws : (b : BoardValue) (v : Values) (c : ℕ) (ps : List Part) → AckLaws b v c ps
+unfolding applied is_stale
+ack_laws b v c ps = record {
+  few = prefix_len-le-length (is_applied b v c ps) ps;
+  stale = λ e.
+      let late = late_at b v c (applied b v c ps) ps e in (
+        late.0,
+        late.1,
+        λ same. true≢false (sym (eq-eqb late.0.generation
+            (starts_below b v.starts (domain_of b c late.0.level)) same) ∙ late.2),
+      );
+  waits = λ e p at. eqb-true _ _ (live_at b v c (applied b v c ps) ps p e at);
+}
+
+-- Sums --------------------------------------------------------------------------------------------
 
 -- Paths ---------------------------------------------------------------------------------------
-
-pub on_path : (b : BoardValue) (c level place : ℕ) → level ≤ height b → up b level c ≡ place
-    → is_on_path b c level place ≡ true
-on_path b c level place low e = grind (arith, nat_tests)
 
 pub path_place : (b : BoardValue) (c level place : ℕ) → is_on_path b c level place ≡ true
     → up b level c ≡ place
@@ -178,18 +211,74 @@ sum_laws b = record {
   few = starts_few b;
 }
 
-pub start_laws : (b : BoardValue) (v : Values) (c : ℕ) (cause : Cause) → c < cores b
-    → StartLaws b v c cause
-start_laws b v c cause inside = record {
-  runs = λ l low.
-      ap (λ t. cond t 0 (v.depth l (up b l c))) (on_path b c l (up b l c) low refl);
-  counts = λ l low.
-      starts_more b v.starts c l (up b l c) inside low
-      ∙ ap (λ t. starts_below b v.starts (record { level = l; place = up b l c }) + cond t 1 0)
-      (on_path b c l (up b l c) low refl);
-  depth = λ l p e. ap (λ t. cond t 0 (v.depth l p)) e;
-  generation = λ l p low e.
-      starts_more b v.starts c l p inside low
-      ∙ ap (λ t. starts_below b v.starts (record { level = l; place = p }) + cond t 1 0) e
-      ∙ add-zero (starts_below b v.starts (record { level = l; place = p }));
-}
+-- A part that was live and is no more is never live again -----------------------------------------
+
+-- a life that was, and is no more
+abbrev IsOver : Option ℕ → ℕ → Type 0
+IsOver None was = Unit {0}
+IsOver (Some l) was = was < l
+
+over_stays : (f : Effect) (o : Option ℕ) (was : ℕ) → IsOver o was → IsOver (life_by f o) was
+over_stays f o was h = grind arith
+
+over_later : (b : BoardValue) (es h : List CtlExchange) (was : ℕ) → IsOver (life b h) was
+    → IsOver (life b (es ++ h)) was
+over_later b [] h was over = over
+over_later b (e ∷ es) h was over =
+    over_stays (effect_in b e) (life b (es ++ h)) was (over_later b es h was over)
+
+over_not : (o : Option ℕ) (was : ℕ) → IsOver o was → o ≡ Some was → ⊥
+over_not o was h e = grind arith
+
+-- in a life starts only grow
+record IsLater (now then_ : ℕ → ℕ) : Type 0 where
+  grown : (k : ℕ) → then_ k ≤ now k
+
+-- either the life is over, or it goes on and no core has fewer starts
+abbrev Later : BoardValue → List CtlExchange → List CtlExchange → ℕ → Type 0
+Later b now before was =
+    IsOver (life b now) was ⊎ ((life b now ≡ Some was) × IsLater (starts b now) (starts b before))
+
+one_later : (b : BoardValue) (f : Effect) (o : Option ℕ) (s t : ℕ → ℕ) (was : ℕ) → o ≡ Some was
+    → IsLater s t
+    → IsOver (life_by f o) was
+    ⊎ ((life_by f o ≡ Some was) × IsLater (λ k. starts_by k f (s k)) t)
+one_later b f o s t was e later = grind (arith, later.grown)
+
+later : (b : BoardValue) (es h : List CtlExchange) (was : ℕ) → life b h ≡ Some was
+    → Later b (es ++ h) h was
+later b [] h was e = inr (e, record { grown = λ k. omega arith })
+later b (x ∷ es) h was e = elim (later b es h was e) [
+  | inl over ↦ inl (over_stays (effect_in b x) (life b (es ++ h)) was over)
+  | inr same ↦ one_later b (effect_in b x) (life b (es ++ h)) (starts b (es ++ h)) (starts b h) was
+      same.0 same.1
+]
+
+-- a generation that is past stays so
+later_sum : (b : BoardValue) (now before : List CtlExchange) (n : Node)
+    → IsLater (starts b now) (starts b before)
+    → starts_below b (starts b before) n ≤ starts_below b (starts b now) n
+later_sum b now before n is = starts_grow b (starts b before) (starts b now) is.grown n
+
+pub never_again : (b : BoardValue) (later_still since before : List CtlExchange) (was : ℕ)
+    (n : Node)
+    (g : ℕ) → IsLive b before was n g → (IsLive b (since ++ before) was n g → ⊥)
+    → IsLive b (later_still ++ (since ++ before)) was n g → ⊥
+never_again b later_still since before was n g first gone again =
+    elim (later b since before was first.life) [
+      | inl over ↦ over_not (life b (later_still ++ (since ++ before))) was
+          (over_later b later_still (since ++ before) was over) again.life
+      | inr same ↦ elim (later b later_still (since ++ before) was same.0) [
+        | inl over ↦ over_not (life b (later_still ++ (since ++ before))) was over again.life
+        | inr still ↦ gone (record {
+          life = same.0;
+          generation = omega (
+            arith,
+            first.generation,
+            again.generation,
+            later_sum b (since ++ before) before n same.1,
+            later_sum b (later_still ++ (since ++ before)) (since ++ before) n still.1,
+          );
+        })
+      ]
+    ]

@@ -1,10 +1,16 @@
 -- The one reply to each call, by the values before it.
-use Rattle.std.specs.Prelude.{ℕ, ◌+◌, Bool, true, false, ◌==◌, ◌&&◌, nat_lt, if◌then◌else◌}
-use Rattle.std.specs.Prelude.{Option, None, Some}
-use Rattle.psci_board.specs.Board.{BoardValue}
-use Rattle.psci_messages.specs.Message.{MessageValue, AckValue}
+use Rattle.std.specs.Prelude.{◌&&◌, ◌+◌, ◌==◌, Bool, false, if◌then◌else◌, List, nat_lt, None}
+use Rattle.std.specs.Prelude.{Option, option_map, Some, take, true, ℕ}
+use Rattle.psci_board.specs.Board.{BoardValue, is_on_path}
+use Rattle.psci_messages.specs.Message.{AckValue, MessageValue}
 use Rattle.psci_messages.specs.declared.kind.Kind.{Kind}
 use Rattle.psci_messages.specs.declared.kind.Kind.TheVariants as kinds
+use Rattle.psci_messages.specs.declared.part.Part.{Part}
+use Rattle.psci_messages.specs.declared.start.Cause.{Cause}
+use Rattle.psci_messages.specs.declared.start.Cause.TheVariants as causes
+use Rattle.psci_messages.specs.declared.start.Start.{Start}
+use Rattle.psci_ctl_spec.specs.Values.{applied, first_cause, first_depth, first_starts, is_stale}
+use Rattle.psci_ctl_spec.specs.Values.{laid, Values}
 use Rattle.psci_ctl_spec.specs.declared.call.CtlCall.{CtlCall}
 use Rattle.psci_ctl_spec.specs.declared.call.CtlCall.TheVariants as calls
 use Rattle.psci_ctl_spec.specs.declared.delivery.Delivery.{Delivery}
@@ -13,11 +19,91 @@ use Rattle.psci_ctl_spec.specs.declared.kick.Kick.{Kick}
 use Rattle.psci_ctl_spec.specs.declared.kick.Kick.TheVariants as kicks
 use Rattle.psci_ctl_spec.specs.declared.reply.CtlReply.{CtlReply}
 use Rattle.psci_ctl_spec.specs.declared.reply.CtlReply.TheVariants as replies
-use Rattle.psci_messages.specs.declared.start.Cause.{Cause}
-use Rattle.psci_messages.specs.declared.start.Cause.TheVariants as causes
-use Rattle.psci_messages.specs.declared.start.Start.{Start}
-use Rattle.psci_ctl_spec.specs.Parts.{applied, is_stale}
-use Rattle.psci_ctl_spec.specs.Values.{Values}
+
+-- What a call with its reply comes down to --------------------------------------------------------
+
+-- Every reply to every call comes down to one of these.
+pub data Effect : Type 0 where
+  -- the call was ignored, or nothing of its message was carried out
+  Nothing : Effect
+  -- a core was started
+  Starts : (core : ℕ) (cause : Cause) → Effect
+  -- these parts were applied on the path of a core
+  Deepens : (core : ℕ) (parts : List Part) → Effect
+  -- the life ended, and none follows
+  Ends : Effect
+  -- the next life began
+  Begins : Effect
+
+-- what an acknowledged message of this kind comes down to; a Reset in the last life is carried out
+-- as Off
+abbrev pub message_effect : BoardValue → MessageValue → AckValue → Kind → Effect
+message_effect b m a kinds.Down = Deepens m.core.number (take a.applied m.parts)
+message_effect b m a kinds.Start =
+    if a.applied == 0 then Nothing else Starts m.core.number causes.On
+message_effect b m a kinds.Off = Ends
+message_effect b m a kinds.Reset = if nat_lt m.life b.lives then Begins else Ends
+
+-- what a wake-up event or a reset of a core comes down to
+abbrev pub kick_effect : ℕ → Cause → Kick → Effect
+kick_effect c cause (kicks.Started s) = Starts c cause
+kick_effect c cause kicks.Ignored = Nothing
+
+-- what a call with this reply comes down to
+unfoldable pub effect_of : BoardValue → CtlCall → CtlReply → Effect
+effect_of b (calls.Deliver m) (replies.Delivery (deliveries.Applied a)) =
+    message_effect b m a m.kind
+effect_of b (calls.Deliver m) (replies.Delivery deliveries.Ignored) = Nothing
+effect_of b (calls.Deliver m) (replies.Kick k) = Nothing
+effect_of b (calls.Wake core halted) (replies.Delivery d) = Nothing
+effect_of b (calls.Wake core halted) (replies.Kick k) = kick_effect core.number causes.Wake k
+effect_of b (calls.Reset core) (replies.Delivery d) = Nothing
+effect_of b (calls.Reset core) (replies.Kick k) = kick_effect core.number causes.Reset k
+
+-- What is kept after a call, by what was kept before it, the call and its reply -------------------
+
+-- one start more of one core
+abbrev pub one_more : (ℕ → ℕ) → ℕ → ℕ → ℕ
+one_more starts c k = if k == c then starts k + 1 else starts k
+
+-- the last start of one core has this cause
+abbrev pub with_cause : (ℕ → Cause) → ℕ → Cause → ℕ → Cause
+with_cause causes c cause k = if k == c then cause else causes k
+
+-- the path of a core runs
+abbrev pub with_path_on : BoardValue → ℕ → (ℕ → ℕ → ℕ) → ℕ → ℕ → ℕ
+with_path_on b c depth level place = if is_on_path b c level place then 0 else depth level place
+
+-- the life after this one
+abbrev pub next_life : Option ℕ → Option ℕ
+next_life life = option_map (λ l. l + 1) life
+
+-- a core is started: its path is fully on
+abbrev pub with_start : BoardValue → ℕ → Cause → Values → Values
+with_start b c cause v = record v {
+  starts = one_more v.starts c;
+  cause = with_cause v.cause c cause;
+  depth = with_path_on b c v.depth;
+}
+
+-- what an effect leaves of the values
+abbrev pub change : BoardValue → Effect → Values → Values
+change b Nothing v = v
+change b (Starts c cause) v = with_start b c cause v
+change b (Deepens c ps) v = record v { depth = laid b c ps v.depth }
+change b Ends v = record v { life = None; starts = λ c. 0; cause = first_cause }
+change b Begins v = record {
+  life = next_life v.life;
+  starts = first_starts;
+  cause = first_cause;
+  depth = first_depth b;
+}
+
+-- what is kept after a call with this reply
+unfoldable pub after : BoardValue → CtlCall → CtlReply → Values → Values
+after b call reply v = change b (effect_of b call reply) v
+
+-- Replies -----------------------------------------------------------------------------------------
 
 -- Messages -------------------------------------------------------------------------------------
 

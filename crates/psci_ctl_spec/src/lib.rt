@@ -21,8 +21,7 @@ pub use call::CtlCall;
 pub use delivery::Delivery;
 pub use kick::Kick;
 pub use laws::{
-    law_acknowledgements, law_depths, law_limits, law_nesting, law_one_reply, law_past,
-    law_replies, law_start, law_sums, law_values,
+    law_acknowledgements, law_depths, law_limits, law_one_reply, law_past, law_replies, law_values,
 };
 pub use psci_messages::{Cause, Start, law_parts};
 pub use reply::CtlReply;

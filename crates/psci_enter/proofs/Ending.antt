@@ -1,99 +1,74 @@
 -- What is left of a core's side and of the firmware, once a call ends.
-use Rattle.std.proofs.Common.{◌<◌, ◌==◌, ◌∙◌, ◌∷◌, ◌≡◌, ap, Bool, cond, false, inl, inr, List}
-use Rattle.std.proofs.Common.{length, Some, refl, subst, sym, ℕ}
+use Rattle.std.proofs.lemmas.Bool.Decides.{nat_tests}
+use Rattle.std.proofs.Common.{◌<◌, ◌==◌, ◌∙◌, ◌∷◌, ◌≡◌, ap, arith, Bool, cond, false, inl, inr}
+use Rattle.std.proofs.Common.{length, List, refl, Some, subst, sym, ℕ}
 use Rattle.std.proofs.lemmas.Bool.{eq-eqb}
 use Rattle.psci_abi.specs.declared.registers.Regs.{Regs}
-use Rattle.psci_board.specs.Board.{BoardValue, cores}
+use Rattle.psci_board.specs.Board.{BoardValue}
+use Rattle.psci_messages.specs.Message.{AckValue}
+use Rattle.psci_messages.specs.declared.start.Start.{Start}
 use Rattle.psci_ctl_spec.specs.Replies.{last_start}
 use Rattle.psci_ctl_spec.specs.Values.{Values as Controlled}
-use Rattle.psci_fw.specs.Seen.{FirmwareValue, seen}
+use Rattle.psci_fw_spec.specs.Effects.{after, FwExchange}
+use Rattle.psci_fw_spec.specs.Answer.{answer}
+use Rattle.psci_fw_spec.specs.History.{values_of}
+use Rattle.psci_fw_spec.specs.Changes.{start_of_life}
+use Rattle.psci_fw_spec.specs.Values.{Values}
 use Rattle.psci_fw_spec.specs.declared.call.FwCall.{FwCall}
 use Rattle.psci_fw_spec.specs.declared.call.FwCall.TheVariants as calls
 use Rattle.psci_fw_spec.specs.declared.fault.FwFault.{FwFault}
-use Rattle.psci_fw_spec.specs.declared.outcome.Act.{Act as Outcomes}
-use Rattle.psci_fw_spec.specs.declared.outcome.Act.TheVariants as outcomes
 use Rattle.psci_fw_spec.specs.declared.outcome.Outcome.{Outcome}
 use Rattle.psci_fw_spec.specs.declared.reply.FwReply.{FwReply}
 use Rattle.psci_fw_spec.specs.declared.reply.FwReply.TheVariants as replies
-use Rattle.psci_fw_spec.specs.After.{after}
-use Rattle.psci_fw_spec.specs.Answer.{answer}
-use Rattle.psci_fw_spec.specs.Exchange.{FwExchange}
-use Rattle.psci_fw_spec.specs.History.{values_of}
-use Rattle.psci_fw_spec.specs.Lives.{start_of_life}
-use Rattle.psci_fw_spec.specs.Values.{Values}
-use Rattle.psci_messages.specs.Message.{AckValue}
-use Rattle.psci_messages.specs.declared.start.Start.{Start}
+use Rattle.psci_world_spec.specs.Legal.{acks, asked_firmware, firmware_values, indexed, said_of}
+use Rattle.psci_world_spec.specs.Legal.{sent}
 use Rattle.psci_world_spec.specs.declared.event.Event.{Event}
 use Rattle.psci_world_spec.specs.declared.event.Event.TheVariants.{Call, Enter, Take}
 use Rattle.psci_world_spec.specs.declared.said.Record.{Record}
 use Rattle.psci_world_spec.specs.declared.said.Said.{Said}
-use Rattle.psci_world_spec.specs.Histories.{acks, firmware_values, sent}
-use Rattle.psci_world_spec.specs.Legal.{asked_firmware, said_of}
-use Rattle.psci_world_spec.specs.Lists.{indexed}
-use Rattle.psci_port.specs.Port.{Finishes, Port, Row, ended, finished}
-use Rattle.psci_port.specs.Port.{stage_at, step}
+use Rattle.psci_headline.specs.Laws.{NoneRefused}
+use Rattle.psci_port.specs.Port.{begins, Calls, Enters, finished, Finishes, Port, Row, stage_at}
+use Rattle.psci_port.specs.Port.{step, Takes}
+use Rattle.psci_port.specs.Rules.{HasLock, IsTrue, May}
 use Rattle.psci_port.specs.Stages as stages
-use Rattle.psci_port.specs.Stages.{Stage, place_of, stage_after, stage_said}
-use Rattle.psci_port.proofs.Keeping.{IsKept}
-use Rattle.psci_port.proofs.Locks.{Fits as FitsCall}
+use Rattle.psci_port.specs.Stages.{Stage, stage_said}
+use Rattle.psci_port.proofs.Locks.{Fits as FitsCall, IsKept}
 use Rattle.psci_port.proofs.Mirrors.{IsDue, IsMirror}
-use Rattle.psci_enter.specs.declared.post.Post.TheVariants.{Entering}
+use Rattle.psci_fw.specs.Reactions.{FirmwareValue, seen}
+use Rattle.psci_enter.specs.Side.{IsAsked, replied, reply_in}
+use Rattle.psci_enter.specs.SideOf.{core_of, Fits, IsAnew, IsFirmwareOf, IsSideOf}
+use Rattle.psci_enter.specs.declared.post.Post.TheVariants.{Entering, Running}
 use Rattle.psci_enter.specs.declared.side.FirmwareSide.{FirmwareSide}
-use Rattle.psci_enter.specs.Side.{IsAsked, post_after, replied, reply_in}
-use Rattle.psci_enter.specs.SideOf.{Fits, IsAnew, IsFirmwareOf, IsSideOf, core_of}
+use Rattle.psci_enter.proofs.Keeping.{called_reply, entered_reply, entry_out, life_of, one_entry}
+use Rattle.psci_enter.proofs.Keeping.{some_ack, taken_reply}
 use Rattle.psci_enter.proofs.Values.{called_values, entered_values, taken_values}
-use Rattle.psci_enter.proofs.Replying.{called_reply, entered_reply, entry_out, life_of, one_entry}
-use Rattle.psci_enter.proofs.Replying.{some_ack, taken_reply}
 
 -- A call ends ------------------------------------------------------------------------------------
 
 row_same : (c : ℕ) (r q : Row) → cond (c == c) r q ≡ r
 row_same c r q = ap (λ t. cond t r q) (eq-eqb c c refl)
 
-act_fits : (a : Outcomes) → Fits (post_after a) (stage_after a)
-act_fits (outcomes.Return code) = refl
-act_fits outcomes.Stop = refl
-act_fits (outcomes.Enter address context) = refl
-act_fits outcomes.Resume = refl
-
 call_fits : (suspended : Bool) (s : FirmwareSide) (c n : ℕ) (regs : Regs) (y : Stage) (r : FwReply)
     → Fits s.post y
     → Fits (replied suspended r s).post (stage_said (Call c regs) (said_of n r) y)
-call_fits suspended s c n regs y (replies.Out o) fits = act_fits o.act
-call_fits suspended s c n regs y (replies.Taken t) fits = fits
-call_fits suspended s c n regs y (replies.Fault f) fits = fits
+call_fits suspended s c n regs y r fits = grind (arith, nat_tests)
 
 entry_fits : (suspended : Bool) (s : FirmwareSide) (c n : ℕ) (y : Stage) (r : FwReply)
     → Fits s.post y
     → Fits (replied suspended r s).post (stage_said (Enter c) (said_of n r) y)
-entry_fits suspended s c n y (replies.Out o) fits = act_fits o.act
-entry_fits suspended s c n y (replies.Taken t) fits = fits
-entry_fits suspended s c n y (replies.Fault f) fits = fits
+entry_fits suspended s c n y r fits = grind (arith, nat_tests)
 
 module _ (b : BoardValue) (p : Port) (s : FirmwareSide) (is : IsSideOf b s p) (q : Record) where
   -- wherever its core is then
   ended_at : (t : FirmwareSide) → core_of t ≡ core_of s → t.used ≡ s.used
       → Fits t.post (stage_said q.event q.said (stage_at p (core_of s)))
       → IsSideOf b t (finished p (core_of s) (Some q))
-  ended_at t core used fits = record {
-    has = subst (λ c. c < cores b) (sym core) is.has;
-    used = used ∙ is.used ∙ ap (λ (r : Row). r.used) (sym own)
-        ∙ ap (λ c. ((finished p (core_of s) (Some q)).row c).used) (sym core);
-    post = subst (λ c. Fits t.post (stage_at (finished p (core_of s) (Some q)) c)) (sym core)
-        (subst (λ (r : Row). Fits t.post r.stage) (sym own) fits);
-  }
-    where
-      own : cond (core_of s == core_of s) (ended q (p.row (core_of s))) (p.row (core_of s))
-          ≡ ended q (p.row (core_of s))
-      own = row_same (core_of s) (ended q (p.row (core_of s))) (p.row (core_of s))
+  ended_at t core used fits = grind (arith, nat_tests)
 
   pub replied_side : (suspended : Bool) (r : FwReply)
       → Fits (replied suspended r s).post (stage_said q.event q.said (stage_at p (core_of s)))
       → IsSideOf b (replied suspended r s) (finished p (core_of s) (Some q))
-  replied_side suspended (replies.Out o) fits = ended_at (replied suspended (replies.Out o) s)
-      refl refl fits
-  replied_side suspended (replies.Taken t) fits = ended_at s refl refl fits
-  replied_side suspended (replies.Fault f) fits = ended_at s refl refl fits
+  replied_side suspended r fits = grind (arith, nat_tests)
 
   pub same_side : Fits s.post (stage_said q.event q.said (stage_at p (core_of s)))
       → IsSideOf b s (finished p (core_of s) (Some q))
@@ -101,17 +76,13 @@ module _ (b : BoardValue) (p : Port) (s : FirmwareSide) (is : IsSideOf b s p) (q
 
 made : (q : Record) (event : Event) (said : Said) → q.event ≡ event → q.said ≡ said
     → q ≡ record { event = event; said = said }
-made q event said at so =
-    ap (λ e. record { event = e; said = q.said }) at
-    ∙ ap (λ x. record { event = event; said = x }) so
+made q event said at so = grind (arith, nat_tests)
 
 -- what is left of a firmware that was kept
 asked_values : (b : BoardValue) (p : Port) (f g : FirmwareValue) (c : ℕ) (call : FwCall)
     → f.board ≡ b → seen f ≡ firmware_values b p.past → IsAsked c call f g
     → seen g ≡ after b c call (reply_in f c call) (firmware_values b p.past)
-asked_values b p f g c call board same asked =
-    asked.values ∙ ap (λ x. after x c call (reply_in f c call) (seen f)) board
-    ∙ ap (λ v. after b c call (reply_in f c call) v) same
+asked_values b p f g c call board same asked = grind (arith, nat_tests)
 
 module _ (b : BoardValue) (p : Port) (kept : IsKept p) (mirror : IsMirror b p)
     (more : (e : FwExchange) (h : List FwExchange)
@@ -128,11 +99,7 @@ module _ (b : BoardValue) (p : Port) (kept : IsKept p) (mirror : IsMirror b p)
   -- the firmware is the one of the port then
   left_firmware : (call : FwCall) → IsAsked c call f g → seen g ≡ firmware_values b (q ∷ p.past)
       → IsFirmwareOf b g (step b p (Finishes c))
-  left_firmware call asked same =
-      subst (λ x. IsFirmwareOf b g x) (sym step_is) (record {
-        board = asked.board ∙ of.board;
-        values = inl same;
-      })
+  left_firmware call asked same = grind (arith, nat_tests, step_is)
 
   module _ (suspended : Bool) (regs : Regs) (at : q.event ≡ Call c regs)
       (asked : IsAsked c (calls.Smc regs) f g) where
@@ -148,12 +115,7 @@ module _ (b : BoardValue) (p : Port) (kept : IsKept p) (mirror : IsMirror b p)
         ∙ ap (said_of (length (sent p.past))) (sym (called_reply b p f of c regs normal)))
 
     called_same : seen g ≡ firmware_values b (q ∷ p.past)
-    called_same = elim of.values [
-      | inl same ↦ asked_values b p f g c (calls.Smc regs) of.board same asked
-          ∙ sym (called_values b more p.past c regs (length (sent p.past)) called_r)
-          ∙ ap (λ x. firmware_values b (x ∷ p.past)) (sym called_it)
-      | inr anew ↦ absurd (anew.none c normal)
-    ]
+    called_same = grind (arith, nat_tests, asked_values, called_values, length, called_it, normal)
 
     pub called_done : IsFirmwareOf b g (step b p (Finishes c))
         × IsSideOf b (replied suspended (reply_in f c (calls.Smc regs)) s) (step b p (Finishes c))
@@ -266,3 +228,62 @@ module _ (b : BoardValue) (p : Port) (kept : IsKept p) (mirror : IsMirror b p)
       subst (λ x. IsSideOf b s x) (sym step_is) (same_side b p s is q
           (subst (λ e. Fits s.post (stage_said e q.said (stage_at p c))) (sym at) is.post)),
     )
+
+-- A call begins ----------------------------------------------------------------------------------
+
+-- a call moves nobody as it begins
+begun_side : (b : BoardValue) (p : Port) (s : FirmwareSide) (c : ℕ) (q : Record) → IsSideOf b s p
+    → IsSideOf b s (begins p c q)
+begun_side b p s c q is = grind (arith, nat_tests)
+
+module _ (b : BoardValue) (p : Port) (f : FirmwareValue) (s : FirmwareSide)
+    (of : IsFirmwareOf b f p) (is : IsSideOf b s p) (has : HasLock p (core_of s)) where
+  abbrev says : FwCall → Said
+  says call = said_of (length (sent p.past)) (reply_in f (core_of s) call)
+
+  pub calls_so : (regs : Regs) → s.post ≡ Running
+      → (May b p (Calls (core_of s) regs (says (calls.Smc regs)))
+      × IsTrue b p (Calls (core_of s) regs (says (calls.Smc regs))))
+      × IsSideOf b s (step b p (Calls (core_of s) regs (says (calls.Smc regs))))
+  unfolding step
+  calls_so regs post = grind (arith, nat_tests)
+
+  pub enters_so : ((v : Values) (c : ℕ) (s : Start) → v.life < s.life
+      → answer b v c (calls.Enter s) ≡ answer b (start_of_life b 0) c (calls.Enter s))
+      → IsKept p → (start : Start) → s.post ≡ Entering start
+      → (May b p (Enters (core_of s) (says (calls.Enter start)))
+      × IsTrue b p (Enters (core_of s) (says (calls.Enter start))))
+      × IsSideOf b s (step b p (Enters (core_of s) (says (calls.Enter start))))
+  unfolding step
+  enters_so alike kept start post = grind (arith, nat_tests)
+
+  pub takes_so : (k : ℕ) (a : AckValue) → (IsAnew b f p → ⊥) → indexed (acks p.past) k ≡ Some a
+      → (May b p (Takes (core_of s) k (says (calls.Take a)))
+      × IsTrue b p (Takes (core_of s) k (says (calls.Take a))))
+      × IsSideOf b s (step b p (Takes (core_of s) k (says (calls.Take a))))
+  unfolding step
+  takes_so k a not at = grind (arith, nat_tests, length, taken_reply, begun_side)
+
+-- A firmware that was made anew takes nothing ----------------------------------------------------
+
+pub lost_ack : (b : BoardValue) (p : Port) (f g : FirmwareValue) (c : ℕ) (a : AckValue)
+    → f.board ≡ b → IsAnew b f p → IsAsked c (calls.Take a) f g → IsFirmwareOf b g p
+unfolding answer after
+lost_ack b p f g c a board anew asked = grind (arith, nat_tests)
+
+-- Nothing is refused -----------------------------------------------------------------------------
+
+module _ (b : BoardValue) (p : Port) (kept : IsKept p) (mirror : IsMirror b p)
+    (free : NoneRefused b p.past) (f : FirmwareValue) (s : FirmwareSide)
+    (of : IsFirmwareOf b f p) (is : IsSideOf b s p) where
+  pub call_passes : (regs : Regs) (fault : FwFault) → s.post ≡ Running
+      → reply_in f (core_of s) (calls.Smc regs) ≡ replies.Fault fault → ⊥
+  unfolding answer
+  call_passes regs fault post e = grind (arith, nat_tests)
+
+  pub entry_passes : ((v : Values) (c : ℕ) (s : Start) → v.life < s.life
+      → answer b v c (calls.Enter s) ≡ answer b (start_of_life b 0) c (calls.Enter s))
+      → (start : Start) (fault : FwFault) → s.post ≡ Entering start
+      → reply_in f (core_of s) (calls.Enter start) ≡ replies.Fault fault → ⊥
+  unfolding answer
+  entry_passes alike start fault post e = grind (arith, nat_tests)

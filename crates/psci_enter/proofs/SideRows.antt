@@ -7,13 +7,13 @@ use Rattle.std.proofs.lemmas.Option.{none-some}
 use Rattle.std.proofs.lemmas.Bool.{eqb-false, false≢true}
 use Rattle.psci_abi.specs.declared.registers.Regs.{Regs}
 use Rattle.psci_board.specs.Board.{cores}
-use Rattle.psci_board.specs.declared.node.Core.{Core}
-use Rattle.psci_ctl_spec.specs.Effects.{Nothing, Starts, Deepens, Ends, Begins}
-use Rattle.psci_fw.specs.Seen.{FirmwareValue, seen}
+use Rattle.psci_board.specs.declared.draft.Core.{Core}
+use Rattle.psci_ctl_spec.specs.Replies.{Nothing, Starts, Deepens, Ends, Begins}
+use Rattle.psci_fw.specs.Reactions.{FirmwareValue, seen}
 use Rattle.psci_fw_spec.specs.declared.call.FwCall.TheVariants as calls
-use Rattle.psci_fw_spec.specs.After.{after}
+use Rattle.psci_fw_spec.specs.Effects.{after}
 use Rattle.psci_fw_spec.specs.Answer.{answer}
-use Rattle.psci_fw_spec.specs.Lives.{start_of_life}
+use Rattle.psci_fw_spec.specs.Changes.{start_of_life}
 use Rattle.psci_fw_spec.specs.Values.{Values}
 use Rattle.psci_messages.specs.Message.{AckValue}
 use Rattle.psci_messages.specs.declared.kind.Kind.TheVariants as kinds
@@ -27,8 +27,8 @@ use Rattle.psci_world_spec.proofs.Scripts.{board, computing, one_core}
 use Rattle.psci_port.specs.Port.{Locks, Calls, Port, Stands, cold, gone_to, state, step}
 use Rattle.psci_port.specs.Stages as stages
 use Rattle.psci_port.specs.Stages.{Stage, looks}
-use Rattle.psci_enter.specs.declared.post.Post.TheVariants.{Waiting, Entering, Running, Leaving}
-use Rattle.psci_enter.specs.declared.post.Post.TheVariants.{Armed, Woken}
+use Rattle.psci_enter.specs.declared.post.Post.TheVariants.{Armed, Entering, Leaving, Running}
+use Rattle.psci_enter.specs.declared.post.Post.TheVariants.{Waiting, Woken}
 use Rattle.psci_enter.specs.declared.side.FirmwareSide.{FirmwareSide}
 use Rattle.psci_enter.specs.Side.{IsAsked, at, fresh}
 use Rattle.psci_enter.specs.SideOf.{Fits, IsAnew, IsDoor, IsFirmwareOf, IsRightly, IsSideOf, is_end}

@@ -2,7 +2,7 @@
 use Rattle.std.specs.Prelude.{ℕ, Bool, ◌==◌, ◌&&◌, if◌then◌else◌, Option, None, Some}
 use Rattle.psci_messages.specs.Message.{MessageValue}
 use Rattle.psci_messages.specs.Slots.{is_kind}
-use Rattle.psci_fw.specs.Seen.{FirmwareValue, seen}
+use Rattle.psci_fw.specs.Reactions.{FirmwareValue, seen}
 use Rattle.psci_fw_state.specs.Seen.{message_shown}
 
 -- what is outstanding of the core of this number, or of the system at the number of cores

@@ -1,24 +1,23 @@
 -- What a core's side has of a port, and the firmware; and what each call of a side does there.
 use Rattle.std.specs.Prelude.{◌≡◌, ℕ, ◌<◌, Bool, true, false, not, ◌==◌, ◌⊎◌, List, ◌∷◌, Some}
 use Rattle.psci_board.specs.Board.{BoardValue, cores}
-use Rattle.psci_ctl_spec.specs.Effects.{Effect, Nothing, Starts, Deepens, Ends, Begins}
+use Rattle.psci_ctl_spec.specs.Replies.{Effect, Nothing, Starts, Deepens, Ends, Begins}
 use Rattle.psci_ctl_spec.specs.declared.kick.Kick.TheVariants as kicks
 use Rattle.psci_ctl_spec.specs.declared.reply.CtlReply.{CtlReply}
 use Rattle.psci_ctl_spec.specs.declared.reply.CtlReply.TheVariants as replies
-use Rattle.psci_fw.specs.Seen.{FirmwareValue, seen}
-use Rattle.psci_fw_spec.specs.Lives.{start_of_life}
-use Rattle.psci_world_spec.specs.Histories.{firmware_values}
-use Rattle.psci_port.specs.Port.{Port, Act, Locks, Unlocks, Calls, Enters, Takes, Finishes}
-use Rattle.psci_port.specs.Port.{TakesUp, Stands, Arms, Sleeps, Delivers, Wakes, Resets, Writes}
-use Rattle.psci_port.specs.Port.{Rouses, Rises, Turns, Opens, Cuts, Restarts, Reboots, stage_at}
-use Rattle.psci_port.specs.Port.{state}
+use Rattle.psci_fw.specs.Reactions.{FirmwareValue, seen}
+use Rattle.psci_fw_spec.specs.Changes.{start_of_life}
+use Rattle.psci_world_spec.specs.Legal.{firmware_values}
+use Rattle.psci_port.specs.Port.{Act, Arms, Calls, Cuts, Delivers, Enters, Finishes, Locks, Opens}
+use Rattle.psci_port.specs.Port.{Port, Reboots, Resets, Restarts, Rises, Rouses, Sleeps, stage_at}
+use Rattle.psci_port.specs.Port.{Stands, state, Takes, TakesUp, Turns, Unlocks, Wakes, Writes}
 use Rattle.psci_port.specs.Rules.{IsTrue, May}
 use Rattle.psci_port.specs.Stages.{Stage, looks}
 use Rattle.psci_port.specs.Stages as stages
 use Rattle.psci_enter.specs.declared.post.Door.{Door}
 use Rattle.psci_enter.specs.declared.post.Post.{Post}
-use Rattle.psci_enter.specs.declared.post.Post.TheVariants.{Waiting, Entering, Running, Leaving}
-use Rattle.psci_enter.specs.declared.post.Post.TheVariants.{Armed, Woken}
+use Rattle.psci_enter.specs.declared.post.Post.TheVariants.{Armed, Entering, Leaving, Running}
+use Rattle.psci_enter.specs.declared.post.Post.TheVariants.{Waiting, Woken}
 use Rattle.psci_enter.specs.declared.side.FirmwareSide.{FirmwareSide}
 
 -- where a core is whose monitor is at this post: one that waits or is armed may have been started
@@ -107,24 +106,8 @@ is_end Begins = true
 
 -- an act that asks the firmware nothing, nor ends a life
 abbrev pub is_quiet : Act → Bool
-is_quiet (Locks c) = true
-is_quiet (Unlocks c) = true
-is_quiet (Calls c regs said) = true
-is_quiet (Enters c said) = true
-is_quiet (Takes c k said) = true
 is_quiet (Finishes c) = false
-is_quiet (TakesUp c) = true
-is_quiet (Stands c) = true
-is_quiet (Arms c) = true
-is_quiet (Sleeps c) = true
 is_quiet (Delivers k m) = false
-is_quiet (Wakes c) = true
-is_quiet (Resets c) = true
-is_quiet (Rouses c) = true
-is_quiet (Rises c) = true
-is_quiet (Turns c) = true
-is_quiet (Writes c) = true
-is_quiet (Opens c) = true
-is_quiet (Cuts level place) = true
 is_quiet Restarts = false
 is_quiet Reboots = false
+is_quiet act = true

@@ -20,8 +20,8 @@ impl Model for Reminder {
     ghost view = { λ r. r.before.items };
 }
 
-ghost use Rattle.std.specs.Prelude.{◌≡◌, ◌<◌, ◌+◌, IfOk, None, length, replicate};
-ghost use Rattle.std.specs.Prelude.{slice_index_or, slice_set};
+ghost use Rattle.std.specs.Prelude.{◌+◌, ◌<◌, ◌≡◌, IfOk, length, None, replicate, slice_index_or};
+ghost use Rattle.std.specs.Prelude.{slice_set};
 ghost use Rattle.psci_board.specs.Board.{cores};
 ghost use Rattle.psci_enter.specs.Again.{is_same, outstanding_in, still};
 

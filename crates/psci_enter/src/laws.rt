@@ -1,49 +1,45 @@
 //! What the firmware's side of a port keeps: each law is the contract of a function that does
 //! nothing.
 
-ghost use Rattle.std.specs.Prelude.{◌≡◌, ◌<◌, ◌⊎◌, ℕ, Bool, ◌∷◌, false, length, List, None};
-ghost use Rattle.std.specs.Prelude.{Some, true};
+ghost use Rattle.std.specs.Prelude.{◌<◌, ◌∷◌, ◌≡◌, ◌⊎◌, Bool, false, length, List, None, Some};
+ghost use Rattle.std.specs.Prelude.{true, ℕ};
 ghost use Rattle.psci_abi.specs.Calls.{request_of};
 ghost use Rattle.psci_abi.specs.declared.registers.Regs.{Regs};
 ghost use Rattle.psci_board.specs.Board.{BoardValue, IsBoard, cores};
-ghost use Rattle.psci_board.specs.declared.node.Core.{Core};
-ghost use Rattle.psci_ctl_spec.specs.Effects.{effect_of};
-ghost use Rattle.psci_ctl_spec.specs.Replies.{last_start, reply};
+ghost use Rattle.psci_board.specs.declared.draft.Core.{Core};
+ghost use Rattle.psci_ctl_spec.specs.Replies.{effect_of, last_start, reply};
 ghost use Rattle.psci_ctl_spec.specs.declared.call.CtlCall.TheVariants as asked;
 ghost use Rattle.psci_enter.specs.Again.{outstanding_in};
 ghost use Rattle.psci_enter.specs.Orders.{is_suspending};
-ghost use Rattle.psci_enter.specs.Side.{IsAsked, at, found, fresh, heard, looked, may_look};
+ghost use Rattle.psci_enter.specs.Side.{at, found, fresh, heard, IsAsked, looked, may_look};
 ghost use Rattle.psci_enter.specs.Side.{replied, reply_in};
-ghost use Rattle.psci_enter.specs.SideOf.{IsAnew, IsDoor, IsFirmwareOf, IsRightly, IsSideOf};
-ghost use Rattle.psci_enter.specs.SideOf.{core_of};
-ghost use Rattle.psci_enter.specs.SideOf.{is_apart, is_end, is_quiet, is_started};
+ghost use Rattle.psci_enter.specs.SideOf.{core_of, is_apart, is_end, is_quiet, is_started, IsAnew};
+ghost use Rattle.psci_enter.specs.SideOf.{IsDoor, IsFirmwareOf, IsRightly, IsSideOf};
 ghost use Rattle.psci_enter.specs.declared.order.Look.TheVariants as look;
 ghost use Rattle.psci_enter.specs.declared.post.Door.{Door};
 ghost use Rattle.psci_enter.specs.declared.post.Post.TheVariants.{Armed, Entering, Leaving};
 ghost use Rattle.psci_enter.specs.declared.post.Post.TheVariants.{Running, Waiting, Woken};
 ghost use Rattle.psci_enter.specs.declared.side.FirmwareSide.{FirmwareSide};
-ghost use Rattle.psci_fw.specs.Seen.{FirmwareValue, seen};
-ghost use Rattle.psci_fw_spec.specs.Lives.{start_of_life};
+ghost use Rattle.psci_fw.specs.Reactions.{FirmwareValue, seen};
+ghost use Rattle.psci_fw_spec.specs.Changes.{start_of_life};
 ghost use Rattle.psci_fw_spec.specs.declared.call.FwCall.TheVariants as calls;
 ghost use Rattle.psci_fw_spec.specs.declared.fault.FwFault.{FwFault};
 ghost use Rattle.psci_fw_spec.specs.declared.reply.FwReply.TheVariants as replies;
 ghost use Rattle.psci_messages.specs.Message.{AckValue, MessageValue};
 ghost use Rattle.psci_messages.specs.declared.start.Start.{Start};
-ghost use Rattle.psci_port.specs.Port.{Act, Arms, Calls, Delivers, Enters, Finishes, Port, Reboots};
-ghost use Rattle.psci_port.specs.Port.{Resets, Restarts, Rises, Rouses, Sleeps, Stands, Takes};
-ghost use Rattle.psci_port.specs.Port.{TakesUp, Turns, Wakes, cold, stage_at, state, words};
+ghost use Rattle.psci_port.specs.Port.{Act, Arms, Calls, cold, Delivers, Enters, Finishes, Port};
+ghost use Rattle.psci_port.specs.Port.{Reboots, Resets, Restarts, Rises, Rouses, Sleeps, stage_at};
+ghost use Rattle.psci_port.specs.Port.{Stands, state, Takes, TakesUp, Turns, Wakes, words};
 ghost use Rattle.psci_port.specs.Rules.{AreTrue, HasLock, IsPortRun, IsTrue, LacksLock, May};
 ghost use Rattle.psci_port.specs.Stages as stages;
 ghost use Rattle.psci_port.specs.Waiting.{waits};
-ghost use Rattle.psci_world_spec.specs.Histories.{acks, sent};
-ghost use Rattle.psci_world_spec.specs.Legal.{said_of};
-ghost use Rattle.psci_world_spec.specs.Lists.{indexed};
+ghost use Rattle.psci_world_spec.specs.Legal.{acks, indexed, said_of, sent};
 ghost use Rattle.psci_world_spec.specs.declared.event.Event.TheVariants as events;
 ghost use Rattle.psci_world_spec.specs.declared.said.Record.{Record};
 
 use psci_board::law_sizes;
 use psci_ctl_spec::law_values;
-use psci_fw_laws::{law_new_life, law_outstanding};
+use psci_fw_laws::law_new_life;
 use psci_headline::{law_agreement, law_never_refused, law_sent};
 use psci_port::law_port;
 
@@ -117,7 +113,6 @@ pub fn law_firmware()
     law_sizes();
     law_new_life();
     law_never_refused();
-    law_outstanding();
     law_sent();
 }
 

@@ -3,7 +3,7 @@
 ghost use Rattle.std.specs.Prelude.{◌≡◌, ℕ, false, true};
 ghost use Rattle.psci_abi.specs.Calls.{request_of};
 ghost use Rattle.psci_enter.specs.Orders.{called, entered, is_suspending};
-ghost use Rattle.psci_enter.specs.Side.{IsAsked, at, found, fresh, heard, looked, may_look};
+ghost use Rattle.psci_enter.specs.Side.{at, found, fresh, heard, IsAsked, looked, may_look};
 ghost use Rattle.psci_enter.specs.Side.{replied, reply_in, taking_up};
 ghost use Rattle.psci_enter.specs.declared.post.Post.TheVariants as posts;
 ghost use Rattle.psci_fw_spec.specs.declared.call.FwCall.TheVariants as calls;

@@ -1,29 +1,29 @@
 -- Worked examples: what a call and an acknowledgement from C are answered and leave in a place,
 -- what an opening leaves, and the wrong things that none of them leaves.
-use Rattle.std.proofs.Common.{◌≡◌, ℕ, Bool, true, false, List, [], ◌∷◌, ◌<◌, refl, sym, ap}
-use Rattle.std.proofs.Common.{◌∙◌, subst}
-use Rattle.std.specs.Prelude.{None, Some, Result, Ok, Err, replicate}
+use Rattle.std.specs.Prelude.{Err, None, Ok, Result, Some, replicate}
+use Rattle.std.proofs.Common.{◌<◌, ◌∙◌, ◌∷◌, ◌≡◌, Bool, List, [], ap, false, refl, subst, sym, true}
+use Rattle.std.proofs.Common.{ℕ}
 use Rattle.psci_board.specs.Board.{BoardValue, cores}
 use Rattle.psci_board.specs.declared.fault.BoardFault.{BoardFault}
-use Rattle.psci_board.specs.declared.fault.BoardFault.TheVariants.{Uneven, TooWide, Memory}
-use Rattle.psci_fw.specs.Seen.{FirmwareValue, seen}
+use Rattle.psci_board.specs.declared.fault.BoardFault.TheVariants.{Memory, TooWide, Uneven}
+use Rattle.psci_fw.specs.Reactions.{FirmwareValue, seen}
 use Rattle.psci_fw_spec.specs.declared.call.FwCall.{FwCall}
 use Rattle.psci_fw_spec.specs.declared.reply.FwReply.{FwReply}
 use Rattle.psci_fw_spec.specs.Answer.{answer}
 use Rattle.psci_fw_spec.specs.History.{values_of}
 use Rattle.psci_fw_spec.specs.Values.{Values}
-use Rattle.psci_link.specs.declared.frame.Frame.TheVariants.{Message, Ack}
+use Rattle.psci_link.specs.declared.encoding.Frame.TheVariants.{Ack, Message}
 use Rattle.psci_link.specs.Frame.{first_fault, frame_bytes}
 use Rattle.psci_messages.specs.declared.kind.Kind.TheVariants.{Start}
 use Rattle.psci_messages.specs.Message.{AckValue, MessageValue}
+use Rattle.psci_status.specs.Lists.{PolledView}
+use Rattle.psci_status.proofs.CallSteps.{Step, asks, board, boots, computing, history, on}
 use Rattle.psci_ffi.specs.Namings.{PlaceValue}
-use Rattle.psci_status.specs.Polled.{PolledView}
-use Rattle.psci_status.proofs.Calls.{Step, asks, board, boots, computing, history, on}
 use Rattle.psci_ffi.specs.Frames.{IsAcknowledged, IsFaulty, IsMisplaced, IsRead, IsTaken, IsTakenBy}
 use Rattle.psci_ffi.specs.Frames.{IsTakenIn}
 use Rattle.psci_ffi.specs.Shown.{IsAfter, IsNewOn, IsNextIn, IsSameIf, IsSameRefused, Opens}
-use Rattle.psci_ffi.specs.Slot.{Kept}
-use Rattle.psci_ffi.proofs.Apart.{apart-by, itself}
+use Rattle.psci_ffi.specs.Slots.{Kept}
+use Rattle.psci_ffi.proofs.ControlDone.{apart-by, itself}
 
 abbrev values : List Step → Values
 values steps = values_of board (history steps)

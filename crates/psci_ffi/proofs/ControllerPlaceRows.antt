@@ -1,18 +1,17 @@
 -- Worked examples: what a power controller's call, an opening, saving and loading leave in a place.
-use Rattle.std.proofs.Common.{ℕ, [], ◌∷◌, false, refl, sym}
+use Rattle.std.specs.Prelude.{Err, None, Ok, Some, replicate}
+use Rattle.std.proofs.Common.{◌∷◌, [], false, refl, sym, ℕ}
 use Rattle.std.proofs.lemmas.Bool.{true≢false}
-use Rattle.std.specs.Prelude.{None, Some, Ok, Err, replicate}
 use Rattle.psci_board.specs.declared.fault.BoardFault.TheVariants as boards
 use Rattle.psci_ctl.specs.Seen.{ControllerValue}
 use Rattle.psci_ctl.specs.declared.level.DomainRow.{DomainRow}
 use Rattle.psci_ctl.specs.declared.row.CoreRow.{CoreRow}
 use Rattle.psci_ctl_spec.proofs.Steps.{board, reset, wake}
 use Rattle.psci_messages.specs.declared.start.Cause.TheVariants.{Wake}
-use Rattle.psci_ffi.specs.declared.controller_answer.ControllerAnswer.{ControllerAnswer}
-use Rattle.psci_ffi.specs.ControllerCalls.{IsGivenTo, IsKicked, Opens}
-use Rattle.psci_ffi.specs.ControllerSaved.{Loads, Saves}
-use Rattle.psci_ffi.specs.ControllerSlot.{KeptController}
-use Rattle.psci_ffi.proofs.Apart.{apart-by}
+use Rattle.psci_ffi.specs.declared.controller_calls.ControllerAnswer.{ControllerAnswer}
+use Rattle.psci_ffi.specs.Controllers.{IsGivenTo, IsKicked, Loads, Opens, Saves}
+use Rattle.psci_ffi.specs.Slots.{KeptController}
+use Rattle.psci_ffi.proofs.ControlDone.{apart-by}
 
 -- A power controller ---------------------------------------------------------------------------
 

@@ -1,10 +1,10 @@
 -- Worked examples: what is written of bytes that are no frame.
-use Rattle.std.proofs.Common.{ℕ, [], ◌∷◌, refl}
 use Rattle.std.specs.Prelude.{None, Some}
-use Rattle.psci_link.specs.declared.fault.FrameFault.TheVariants.{Magic}
+use Rattle.std.proofs.Common.{◌∷◌, [], refl, ℕ}
+use Rattle.psci_link.specs.declared.parts.FrameFault.TheVariants.{Magic}
 use Rattle.psci_ffi.specs.declared.fields.Fields.{Fields}
 use Rattle.psci_ffi.specs.declared.fields.PartFields.{PartFields}
-use Rattle.psci_ffi.specs.Fields.{IsDecodedIn, IsUnread}
+use Rattle.psci_ffi.specs.Frames.{IsDecodedIn, IsUnread}
 
 abbrev none : PartFields
 none = record { level = 0; depth = 0; generation = 0 }

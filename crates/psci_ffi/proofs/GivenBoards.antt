@@ -1,26 +1,45 @@
 -- A struct without a fault gives a board, and what is said of one with a fault.
-use Rattle.std.proofs.Common.{◌≡◌, ℕ, suc, zero, ◌<◌, ◌≤◌, true, false}
-use Rattle.std.proofs.Common.{List, [], ◌∷◌, length}
-use Rattle.std.proofs.Common.{take, map, sum, get_or, Some, None, refl, ap, ◌∙◌}
-use Rattle.std.proofs.Common.{arith}
-use Rattle.std.specs.Prelude.{nat_le, Result, Ok, Err}
-use Rattle.std.specs.List.{list_any, list_all}
+use Rattle.std.specs.Prelude.{◌==◌, Err, Ok, Result, nat_le}
+use Rattle.std.specs.List.{list_all, list_any}
+use Rattle.std.proofs.Common.{◌<◌, ◌∙◌, ◌∷◌, ◌≡◌, ◌≤◌, List, None, Some, [], ap, arith, false}
+use Rattle.std.proofs.Common.{get_or, length, map, refl, suc, sum, take, true, zero, ℕ}
 use Rattle.std.proofs.lemmas.Bool.{and_parts, eqb-true, leb-true, ltb-true, not-false, or_parts}
 use Rattle.std.proofs.lemmas.Bool.Decides.{nat_tests}
 use Rattle.std.proofs.lemmas.List.{length-map, length-take}
-use Rattle.psci_board.specs.psci_abi.declared.format.Format.{Format}
-use Rattle.psci_board.specs.declared.limits.TheConstants.{MOST_CORES}
 use Rattle.psci_board.specs.Board.{BoardValue, IsBoard, IsTree, size_below}
-use Rattle.psci_board.specs.declared.fault.BoardFault.{BoardFault}
-use Rattle.psci_board.specs.declared.fault.BoardFault.TheVariants.{Grammar}
 use Rattle.psci_board.specs.Draft.{first_fault}
 use Rattle.psci_board.specs.Verdict.{Answers, is_out_of_width}
-use Rattle.psci_board.proofs.FirstFault.{faulty, never_memory, without_fault}
+use Rattle.psci_board.specs.declared.fault.BoardFault.{BoardFault}
+use Rattle.psci_board.specs.declared.fault.BoardFault.TheVariants.{Grammar}
+use Rattle.psci_board.specs.declared.draft.TheConstants.{MOST_CORES}
+use Rattle.psci_board.specs.psci_abi.declared.registers.Format.{Format}
+use Rattle.psci_board.proofs.Fronts.{faulty, never_memory, without_fault}
 use Rattle.psci_board.proofs.KeptTree.{pass_width}
-use Rattle.psci_ffi.specs.declared.given.GivenBoard.{GivenBoard}
-use Rattle.psci_ffi.specs.declared.given.GivenLevel.{GivenLevel}
+use Rattle.psci_messages.specs.Message.{ArePartsOf}
+use Rattle.psci_messages.specs.declared.kind.Kind.{Kind}
+use Rattle.psci_messages.specs.declared.kind.Kind.TheVariants.{Down}
+use Rattle.psci_messages.specs.declared.part.Part.{Part}
+use Rattle.psci_ffi.specs.Frames.{has_parts}
 use Rattle.psci_ffi.specs.Given.{board_given, board_of_given, draft_given, format_given, has_levels}
 use Rattle.psci_ffi.specs.Given.{is_even, level_given, levels_given}
+use Rattle.psci_ffi.specs.declared.given.GivenBoard.{GivenBoard}
+use Rattle.psci_ffi.specs.declared.given.GivenLevel.{GivenLevel}
+
+-- Parts that a message of a kind may have are such as a message has -------------------------------
+
+none : (ps : List Part) → (length ps == 0) ≡ true → ps ≡ []
+none [] h = refl
+none (p ∷ ps) h = let e = eqb-true (length (p ∷ ps)) 0 h in absurd (omega (arith, e))
+
+pub fit : (kind : Kind) (ps : List Part) → has_parts kind ps ≡ true → length ps ≤ 4
+    → ArePartsOf kind ps
+fit Down ps h few =
+    let outer = and_parts _ _ h in
+    let inner = and_parts _ _ outer.0 in
+    record { some = ltb-true 0 _ inner.0; most = few; levels = inner.1; depths = outer.1 }
+fit kind ps h few = none ps h
+
+-- Given boards ------------------------------------------------------------------------------------
 
 -- Levels ---------------------------------------------------------------------------------------
 

@@ -1,19 +1,18 @@
 -- Worked examples: what a turn of a guest leaves in a place, and what is told of none.
-use Rattle.std.proofs.Common.{◌∙◌, ◌≡◌, ◌∷◌, [], ap, arith, false, List, None, refl, Some, ℕ}
 use Rattle.std.specs.Prelude.{Err, Ok}
+use Rattle.std.proofs.Common.{◌∙◌, ◌∷◌, ◌≡◌, List, None, Some, [], ap, arith, false, refl, ℕ}
 use Rattle.psci_abi.specs.declared.registers.Regs.{Regs}
-use Rattle.psci_fw.specs.Seen.{seen}
+use Rattle.psci_fw.specs.Reactions.{seen}
 use Rattle.psci_guest.specs.Arrivals.{RunsIn}
 use Rattle.psci_guest.specs.Guest.{IsAfter}
 use Rattle.psci_guest.specs.Turns.{Turn, turns}
 use Rattle.psci_board.specs.Board.{BoardValue}
 use Rattle.psci_board.specs.declared.fault.BoardFault.TheVariants.{Memory, TooWide}
 use Rattle.psci_guest.specs.declared.turned.Turned.{Turned}
-use Rattle.psci_ffi.specs.declared.guest_turn.GuestTurn.{GuestTurn}
-use Rattle.psci_ffi.specs.GuestCalls.{called_shown, IsCalled, IsCallTold, IsMade}
-use Rattle.psci_ffi.specs.GuestCalls.{IsOpened, IsResetTold, IsWakeTold, Opens}
-use Rattle.psci_ffi.specs.Namings.{asked_in}
-use Rattle.psci_ffi.specs.GuestNamings.{GuestValue}
+use Rattle.psci_ffi.specs.declared.guest_calls.GuestTurn.{GuestTurn}
+use Rattle.psci_ffi.specs.Guests.{IsCallTold, IsCalled, IsMade, IsResetTold, IsWakeTold}
+use Rattle.psci_ffi.specs.Guests.{Opens, called_shown}
+use Rattle.psci_ffi.specs.Namings.{GuestValue, asked_in}
 use Rattle.psci_ffi.specs.Shown.{asked_shown, no_frame, plain}
 
 -- zeros, but for these two
@@ -37,7 +36,7 @@ empty made = (refl, refl)
 opens : (b : BoardValue) (before : GuestTurn)
     → Opens (Err TooWide) (Err TooWide) None None before before
     × Opens (Err Memory) (Ok b) None None before before
-    × (IsOpened (Err TooWide) before None → ⊥)
+    × (Opens (Ok tt) (Err TooWide) None None before before → ⊥)
 opens b before = ((refl, (refl, refl)), (refl, (refl, refl)), λ no. no)
 
 -- What was done ---------------------------------------------------------------------------------

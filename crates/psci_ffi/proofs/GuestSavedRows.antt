@@ -1,6 +1,6 @@
 -- Worked examples: what saving and loading leave in a guest's place.
-use Rattle.std.proofs.Common.{◌≡◌, ℕ, [], ◌∷◌, List, refl}
 use Rattle.std.specs.Prelude.{Err, None, Ok, Some}
+use Rattle.std.proofs.Common.{◌∷◌, ◌≡◌, List, [], refl, ℕ}
 use Rattle.psci_ctl.specs.Saved as controller_words
 use Rattle.psci_fw_state.specs.Saved as firmware_words
 use Rattle.psci_messages.specs.Saved.{slots_words}
@@ -8,8 +8,8 @@ use Rattle.psci_tree.specs.Saved.{depth_words}
 use Rattle.psci_guest.specs.declared.fault.LoadFault.TheVariants as faults
 use Rattle.psci_guest.specs.Saved.{saved}
 use Rattle.psci_guest.proofs.SavedRows.{pair}
-use Rattle.psci_ffi.specs.GuestNamings.{GuestValue}
-use Rattle.psci_ffi.specs.GuestSaved.{GuestLoads, GuestSaves, IsLoadOf}
+use Rattle.psci_ffi.specs.Namings.{GuestValue}
+use Rattle.psci_ffi.specs.Guests.{GuestLoads, GuestSaves, IsLoadOf}
 
 nothing_saved : GuestSaves None (7 ∷ []) 16 (7 ∷ [])
 nothing_saved = (refl, refl)

@@ -1,27 +1,26 @@
 -- Worked examples: a machine of two clusters whose MPIDRs are no places, and what an opening leaves
 -- in its place.
-use Rattle.std.proofs.Common.{◌≡◌, ℕ, Bool, List, [], ◌∷◌, ◌++◌, true, false, refl, ap}
-use Rattle.std.proofs.Common.{arith, replicate}
-use Rattle.std.specs.Prelude.{Option, Ok, Err, None, Some}
-use Rattle.psci_abi.specs.declared.format.Format.TheVariants.{Original}
+use Rattle.std.specs.Prelude.{Err, None, Ok, Option, Some}
+use Rattle.std.proofs.Common.{◌++◌, ◌∷◌, ◌≡◌, Bool, List, [], ap, arith, false, refl, replicate}
+use Rattle.std.proofs.Common.{true, ℕ}
+use Rattle.psci_abi.specs.declared.registers.Format.TheVariants.{Original}
 use Rattle.psci_board.specs.Board.{BoardValue}
 use Rattle.psci_board.specs.declared.fault.BoardFault.TheVariants as boards
 use Rattle.psci_platform.specs.declared.class.Class.{Class}
-use Rattle.psci_platform.specs.declared.class.Class.TheVariants.{Running, Standby, Retention}
-use Rattle.psci_platform.specs.declared.class.Class.TheVariants.{PowerDown}
+use Rattle.psci_platform.specs.declared.class.Class.TheVariants.{PowerDown, Retention, Running}
+use Rattle.psci_platform.specs.declared.class.Class.TheVariants.{Standby}
 use Rattle.psci_platform.specs.Described.{DescriptionValue}
 use Rattle.psci_platform.specs.Platforms.{PlatformValue}
 use Rattle.psci_platform.proofs.Machines.{all_functions, board, checking, row}
-use Rattle.psci_status.specs.Polled.{PolledView}
-use Rattle.psci_ffi.specs.declared.machine_fault.MachineFault.TheVariants.{Board, Room}
-use Rattle.psci_ffi.specs.declared.machine_given.GivenMachine.{GivenMachine}
-use Rattle.psci_ffi.specs.declared.machine_given.GivenRow.{GivenRow}
-use Rattle.psci_ffi.specs.declared.guest_turn.GuestTurn.{GuestTurn}
-use Rattle.psci_ffi.specs.GuestNamings.{GuestValue}
-use Rattle.psci_ffi.specs.GuestSlot.{KeptGuest}
-use Rattle.psci_ffi.specs.MachineOpening.{IsMade, OpensGuest, OpensMachine}
-use Rattle.psci_ffi.specs.Slot.{IsFull, Kept}
-use Rattle.psci_ffi.proofs.Apart.{apart-by}
+use Rattle.psci_status.specs.Lists.{PolledView}
+use Rattle.psci_ffi.specs.declared.machine.MachineFault.TheVariants.{Board, Room}
+use Rattle.psci_ffi.specs.declared.machine.GivenMachine.{GivenMachine}
+use Rattle.psci_ffi.specs.declared.machine.GivenRow.{GivenRow}
+use Rattle.psci_ffi.specs.declared.guest_calls.GuestTurn.{GuestTurn}
+use Rattle.psci_ffi.specs.Namings.{GuestValue}
+use Rattle.psci_ffi.specs.Slots.{IsFilled, Kept, KeptGuest}
+use Rattle.psci_ffi.specs.Machines.{IsMade, OpensGuest, OpensMachine}
+use Rattle.psci_ffi.proofs.ControlDone.{apart-by}
 
 -- A machine -------------------------------------------------------------------------------------
 
@@ -94,6 +93,10 @@ abbrev full : Kept → ℕ
 full None = 0
 full (Some f) = 1
 
+-- what an empty place keeps
+abbrev nothing : Kept
+nothing = None
+
 opens_not : (p : PolledView) →
     -- want of memory is answered of a board without a fault alone
     ¬ (IsMade (Err (Board boards.Memory)) (Err boards.Uneven) paired 1)
@@ -106,7 +109,8 @@ opens_not : (p : PolledView) →
     × ¬ (OpensMachine (Ok tt) (Ok paired_board) paired 1 (placed p) None)
     -- a machine that is opened is in order
     × ¬ (OpensMachine (Ok tt) (Ok paired_board) paired 1 None (placed p))
-    × ¬ (OpensMachine (Ok tt) (Err boards.Uneven) paired 1 (placed p) (placed p)) × ¬ (IsFull None)
+    × ¬ (OpensMachine (Ok tt) (Err boards.Uneven) paired 1 (placed p) (placed p))
+    × ¬ (IsFilled nothing)
 unfolding checking
 opens_not p = (
   λ h. apart-by truth h refl,

@@ -1,16 +1,16 @@
 -- Worked examples: the words that a place is opened with, and that are left in it.
-use Rattle.std.proofs.Common.{ℕ, None, Some, refl}
+use Rattle.std.specs.Prelude.{Option}
+use Rattle.std.proofs.Common.{None, Some, refl, ℕ}
 use Rattle.std.specs.Global.{Global}
 use Rattle.std_alloc.specs.declared.boxed.Box.{Box}
-use Rattle.std.specs.Prelude.{Option}
 use Rattle.psci_board.specs.Board.{BoardValue}
 use Rattle.psci_fw_spec.specs.declared.call.FwCall.{FwCall}
 use Rattle.psci_platform.specs.Platforms.{PlatformValue}
-use Rattle.psci_status.specs.Polled.{IsNext, PolledView}
+use Rattle.psci_status.specs.Lists.{IsNext, PolledView}
 use Rattle.psci_ffi.specs.declared.naming.Naming.TheVariants.{Board, Machine}
 use Rattle.psci_ffi.specs.Namings.{PlaceValue}
 use Rattle.psci_ffi.specs.Shown.{IsNew, IsNewIn, IsNewOn, IsNextIn}
-use Rattle.psci_ffi.proofs.Apart.{apart-by}
+use Rattle.psci_ffi.proofs.ControlDone.{apart-by}
 
 -- Words ---------------------------------------------------------------------------------------
 

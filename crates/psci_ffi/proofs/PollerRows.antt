@@ -1,22 +1,20 @@
 -- Worked examples: one who polls a firmware, and what C gets of it.
-use Rattle.std.proofs.Common.{◌≡◌, inl, inr, ℕ, ℤ, pos, negsuc, List, [], ◌∷◌, refl, sym, ◌∙◌}
-use Rattle.std.proofs.Common.{arith, None, Option, Some}
+use Rattle.std.proofs.Common.{◌∙◌, ◌∷◌, ◌≡◌, List, None, Option, Some, [], arith, inl, inr, negsuc}
+use Rattle.std.proofs.Common.{pos, refl, sym, ℕ, ℤ}
 use Rattle.atomic_table.specs.Seated.{TableId}
-use Rattle.psci_abi.specs.declared.code.Code.{Code}
+use Rattle.psci_abi.specs.declared.registers.Code.{Code}
 use Rattle.psci_board.specs.Board.{BoardValue}
-use Rattle.psci_fw.specs.Seen.{FirmwareValue}
+use Rattle.psci_fw.specs.Reactions.{FirmwareValue}
 use Rattle.psci_fw_spec.specs.declared.status.Status.{Status}
 use Rattle.psci_fw_spec.specs.declared.status.Status.TheVariants.{Off, On, Pending}
-use Rattle.psci_status.specs.Lists.{Item, row}
-use Rattle.psci_status.specs.Polled.{PolledView}
-use Rattle.psci_status.proofs.Calls.{board, computing}
-use Rattle.psci_ffi.specs.Namings.{PlaceValue}
-use Rattle.psci_ffi.specs.PollerSlot.{KeptWatch}
-use Rattle.psci_ffi.specs.Pollers.{HasPolledIn, IsFilled, IsOpenedFor, OpensPoller}
-use Rattle.psci_ffi.specs.Watching.{HasPolled, IsWatchOf, WatchView}
-use Rattle.psci_ffi.proofs.Apart.{apart-by, itself, neither}
-use Rattle.psci_ffi.proofs.MachineAxisRows.{last as last-boots}
+use Rattle.psci_status.specs.Lists.{Item, PolledView, row}
+use Rattle.psci_status.proofs.CallSteps.{board, computing}
 use Rattle.psci_platform.specs.Platforms.{PlatformValue}
+use Rattle.psci_ffi.specs.Namings.{HasPolled, IsWatchOf, PlaceValue, WatchView}
+use Rattle.psci_ffi.specs.Slots.{KeptWatch}
+use Rattle.psci_ffi.specs.Readers.{HasPolledIn, IsFilledWith, IsOpenedFor, OpensPoller}
+use Rattle.psci_ffi.proofs.ControlDone.{apart-by, itself, neither}
+use Rattle.psci_ffi.proofs.MachineAxisRows.{last as last-boots}
 
 -- Firmware, and who polls it ------------------------------------------------------------------
 
@@ -136,13 +134,13 @@ abbrev is-full : KeptWatch → ℕ
 is-full None = 0
 is-full (Some w) = 1
 
-fills : IsFilled old 0 empty full × IsFilled old 0 (Some new) full
-    × IsFilled old 8 (Some new) (Some new)
+fills : IsFilledWith old 0 empty full × IsFilledWith old 0 (Some new) full
+    × IsFilledWith old 8 (Some new) (Some new)
 fills = (inl (refl, refl), inl (refl, refl), inr (refl, refl))
 
 -- one is put there without memory; none is; one is taken away without memory
-fills-not : ¬ (IsFilled old 8 empty full) × ¬ (IsFilled old 0 empty empty)
-    × ¬ (IsFilled old 8 full empty)
+fills-not : ¬ (IsFilledWith old 8 empty full) × ¬ (IsFilledWith old 0 empty empty)
+    × ¬ (IsFilledWith old 8 full empty)
 fills-not = (
   neither (λ h. apart-by itself h.0 refl) (λ h. apart-by is-full h.1 refl),
   neither (λ h. apart-by is-full h.1 refl) (λ h. apart-by itself h.0 refl),

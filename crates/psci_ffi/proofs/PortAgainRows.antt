@@ -1,6 +1,6 @@
 -- What C keeps of a look decides as a reminder does.
-use Rattle.std.proofs.Common.{◌≡◌, ℕ, false, refl}
-use Rattle.std.specs.Prelude.{◌==◌, nat_lt, Option, None, Some}
+use Rattle.std.specs.Prelude.{◌==◌, None, Option, Some, nat_lt}
+use Rattle.std.proofs.Common.{◌≡◌, false, refl, ℕ}
 use Rattle.psci_board.specs.Board.{cores}
 use Rattle.psci_enter.specs.Again.{outstanding_in, still}
 use Rattle.psci_messages.specs.declared.kind.Kind.{Kind}
@@ -8,9 +8,9 @@ use Rattle.psci_messages.specs.declared.kind.Kind.TheVariants as kinds
 use Rattle.psci_messages.specs.Message.{MessageValue}
 use Rattle.psci_messages.specs.Slots.{is_kind}
 use Rattle.psci_link.specs.Frame.{kind_code}
-use Rattle.psci_ffi.specs.declared.port_again.PortSent.{PortSent}
+use Rattle.psci_ffi.specs.declared.port_calls.PortSent.{PortSent}
 use Rattle.psci_ffi.specs.Namings.{PlaceValue}
-use Rattle.psci_ffi.specs.PortAgain.{again_left, again_shown, sent_shown, still_sent}
+use Rattle.psci_ffi.specs.PortCalls.{again_left, again_shown, sent_shown, still_sent}
 use Rattle.psci_ffi.specs.Shown.{frame_shown}
 
 no_kind : (k : Kind) → (0 == kind_code k) ≡ false

@@ -1,48 +1,72 @@
 -- What is in a slot is lent where it lies, and the slot follows it.
-use mathlib.Core.Path.{◌≡◌, refl}
+use Rattle.std.specs.Prelude.{Some}
+use Rattle.std.proofs.Crossing as heap
+use Rattle.std.proofs.raw_atomic.Walks.{proved}
 use Prim.Native.Nat.{ℕ}
-use mathlib.Core.List.{List, [], ◌∷◌}
-use seplogic.Ra.Ura.{Ura}
+use Rattle.core.proofs.alloc.Calls.{token}
+use Rattle.std_alloc.proofs.BoxSteps.Form.{B, D, handle, word, τ}
+use Rattle.std_alloc.proofs.BoxSteps.Steps.{box_in, box_out}
+use Rattle.std_alloc.proofs.VecSteps.Shapes.{after}
+use base.Fml.{Fml, GName, Lft, Share, flft, fsep, ftrue}
 use base.Fraction.{full_share}
-use mir.Syntax.{Callee, Fn, erased, mut, named, ty_ptr, ty_ref, value_local, local, place}
-use mir.Syntax.{addr_of, assign, block, copy, deref, field, return, rv_opd, seq}
-use mir.Raw.{raw as bare}
-use mir.Val.{Val, vptr}
 use base.Logic.{SProp, ent, sep}
-use base.Fml.{Lft, GName, Share, Fml, ftrue, flft, fsep}
 use contract.Monad.{fact}
 use contract.Running.{Running, tables}
-use prog.Model.{Model}
-use prog.Wp.{Calls, Closed, Env, Loops, WpFn}
-use types.Logic.{Logic, sem}
-use types.Kit.{‵, raw, ◌⊛◌, some, at_ret, ◌$◌, ◌∵◌, !, qed, by, move, keep, use1, drop, split, join}
-use types.Kit.{pick, rewrite, fsplit, fsplit3, fjoin, suffices}
-use types.Kit.{frame, done, later, await, group, fpack}
-use types.Part.{whole, sub, look_in}
-use types.Run.{stop, fld, load, of_opd, first, blocks, exec, returns, enter, addr}
-use types.ByLocal.{alloc_all, pass_all, free_all, look_at, get, through, sets, env, sets_last}
 use denote.Exit.{no}
-use denote.Follow.{follows, Part, lends_Part}
-use denote.Memory.{part_at, mem, cell_at, part_of, pointee}
+use denote.Follow.{Part, follows, lends_Part}
+use denote.Memory.{cell_at, mem, part_at, part_of, pointee}
 use denote.Param.{layout}
+use denote.Param.Send.{IsSend, sendable}
 use denote.RattleType.{RattleType, owns}
 use denote.RawPtr.{block_ptr}
-use denote.Ref.{MutRef, mut_vals, mut_Tells}
-use denote.Signature.{Slot, plain, mut_ref_to}
-use denote.Steps.{nothing, heard, opens}
+use denote.Ref.{MutRef, mut_Tells, mut_vals}
+use denote.Signature.{Slot, mut_ref_to, plain}
+use denote.Steps.{heard, nothing, opens}
 use denote.Triple.Clauses.{Clauses, Ended, closing}
 use denote.Triple.Entry.{on_entry}
 use denote.Triple.Spec.{Meets}
-use denote.Triple.Walked.{says, Stays, stay_dropped, walk_of, ends_at, Goes-spent_ref}
-use Rattle.core.proofs.alloc.Calls.{token}
-use Rattle.std.proofs.raw_atomic.Walks.{proved}
-use Rattle.std.specs.Prelude.{Some}
-use Rattle.std_alloc.proofs.VecSteps.Shapes.{after}
-use Rattle.std_alloc.proofs.BoxSteps.Form.{B, D, τ, handle, word}
-use Rattle.std_alloc.proofs.BoxSteps.Steps.{box_out, box_in}
+use denote.Triple.Walked.{Goes-spent_ref, Stays, ends_at, says, stay_dropped, walk_of}
+use mathlib.Core.List.{◌∷◌, List, []}
+use mathlib.Core.Path.{◌≡◌, refl}
+use mir.Raw.{raw as bare}
+use mir.Syntax.{Callee, Fn, addr_of, assign, block, copy, deref, erased, field, local, mut, named}
+use mir.Syntax.{place, return, rv_opd, seq, ty_ptr, ty_ref, value_local}
+use mir.Val.{Val, vptr}
+use prog.Model.{Model}
+use prog.Wp.{Calls, Closed, Env, Loops, WpFn}
+use seplogic.Ra.Ura.{Ura}
+use types.ByLocal.{alloc_all, env, free_all, get, look_at, pass_all, sets, sets_last, through}
+use types.Kit.{◌$◌, ◌∵◌, ◌⊛◌, !, at_ret, await, by, done, drop, fjoin, fpack, frame, fsplit}
+use types.Kit.{fsplit3, group, join, keep, later, move, pick, qed, raw, rewrite, some, split}
+use types.Kit.{suffices, use1, ‵}
+use types.Logic.{Logic, sem}
+use types.Part.{look_in, sub, whole}
+use types.Run.{addr, blocks, enter, exec, first, fld, load, of_opd, returns, stop}
+use Rattle.psci_control.specs.contracts.control_side.ControlSide as ControlSide
+use Rattle.psci_control.proofs.control_side.ControlSide.TheLaws as side-laws
+use Rattle.psci_control.proofs.gate.Gate.TheSendSync as gate
 use Rattle.psci_ffi.specs.Slots.{IsFilled}
-use Rattle.psci_ffi.proofs.SlotForm.{Form, E, S, X, filled, is_some, kept_in, opened, puts}
-use Rattle.psci_ffi.proofs.SlotForm.{slot_ty, value_of}
+use Rattle.psci_ffi.specs.contracts.control_place.ControlSlot as ControlSlot
+use Rattle.psci_ffi.proofs.Crossing as crossing
+use Rattle.psci_ffi.proofs.SlotEmpty.{E, Form, S, X, filled, is_some, kept_in, opened, puts}
+use Rattle.psci_ffi.proofs.SlotEmpty.{slot_ty, value_of}
+
+-- The slot of the power controller's side; and what is in it may go to another core ---------------
+
+abbrev pub control : Form
+control = record {
+  inner = ControlSide.the_row;
+  laws = side-laws.the_row_laws;
+  type = ControlSlot.the_type;
+  parts = λ s. (s.ptr, s.alloc, s.kept);
+  made = λ m. record { ptr = m.0; alloc = m.1; kept = m.2 };
+  made_is = λ m. refl;
+}
+
+pub side : IsSend ControlSide.the_row
+side = search (sendable, heap.crosses, crossing.controller, gate.the_send) depth 40 fits 20000
+
+-- Slot lends --------------------------------------------------------------------------------------
 
 module _ (F : Form) where
   abbrev lent : RattleType → Slot 1

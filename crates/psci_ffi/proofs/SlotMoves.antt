@@ -1,40 +1,40 @@
 -- `of_parts` and `into_parts` move two fields, and what they own goes with them.
-use mathlib.Core.Path.{◌≡◌, refl, sym, subst, ap}
-use mathlib.Core.List.{List, [], ◌∷◌, ◌++◌}
+use Rattle.std.specs.Prelude.{Some}
+use mathlib.Core.Path.{◌≡◌, ap, refl, subst, sym}
+use mathlib.Core.List.{◌++◌, ◌∷◌, List, []}
 use Prim.Native.Nat.{ℕ}
 use seplogic.Ra.Ura.{Ura}
-use mir.Syntax.{Callee, Fn, Sym, Local, ty_ptr, ty_struct, tnil, tcons, value_local, local, place}
-use mir.Syntax.{copy, field, assign, rv_opd, aggregate, seq, return}
+use mir.Syntax.{Callee, Fn, Local, Sym, aggregate, assign, copy, field, local, place, return}
+use mir.Syntax.{rv_opd, seq, tcons, tnil, ty_ptr, ty_struct, value_local}
 use mir.Val.{Val}
-use base.Logic.{SProp, ent, emp, id⊢}
-use base.Fml.{ftrue, fsep}
+use base.Logic.{SProp, emp, ent, id⊢}
+use base.Fml.{fsep, ftrue}
 use contract.Monad.{fact}
 use contract.Running.{Running, tables}
 use prog.Model.{Model}
 use prog.Wp.{Calls, Closed, Loops, WpFn}
 use types.Logic.{Logic}
-use types.Kit.{‵, raw, ◌⊛◌, ◌$◌, ◌∵◌, !, qed, by, move, keep, drop, use1, join, split, fsplit}
-use types.Kit.{fjoin, suffices, done}
-use types.Part.{whole, sub, agg}
-use types.Run.{stop, fld, no_more, and_then, of_opd, returns, enter}
-use types.ByLocal.{alloc_all, pass_all, free_all, look_at, get, get_in, sets}
+use types.Kit.{◌$◌, ◌∵◌, ◌⊛◌, !, by, done, drop, fjoin, fsplit, join, keep, move, qed, raw, split}
+use types.Kit.{suffices, use1, ‵}
+use types.Part.{agg, sub, whole}
+use types.Run.{and_then, enter, fld, no_more, of_opd, returns, stop}
+use types.ByLocal.{alloc_all, free_all, get, get_in, look_at, pass_all, sets}
 use denote.Exit.{yes}
 use denote.RattleType.{RattleType}
 use denote.Signature.{plain}
 use denote.Steps.{heard, nothing}
 use denote.Triple.Clauses.{Clauses, Ended, closing}
 use denote.Triple.Spec.{Meets}
-use denote.Triple.Walked.{says, Stays, stay_dropped, walk_of, ends_at, Goes-dropped}
+use denote.Triple.Walked.{Goes-dropped, Stays, ends_at, says, stay_dropped, walk_of}
 use Rattle.core.proofs.alloc.Calls.{Fits, α}
 use Rattle.std.proofs.raw_atomic.Walks.{proved_at}
-use Rattle.std.specs.Prelude.{Some}
-use Rattle.std_alloc.proofs.BoxSteps.Form.{D, B, word, box_typed}
-use Rattle.std_alloc.proofs.BoxSteps.Steps.{box_out, box_in}
+use Rattle.std_alloc.proofs.BoxSteps.Form.{B, D, box_typed, word}
+use Rattle.std_alloc.proofs.BoxSteps.Steps.{box_in, box_out}
 use Rattle.std_heap.specs.contracts.Global as Heap
 use Rattle.std_heap.specs.contracts.GlobalAllocator.TheImpl.{ghosts}
 use Rattle.psci_ffi.specs.Slots.{IsFilled}
-use Rattle.psci_ffi.specs.contracts.parts.Parts as Parts
-use Rattle.psci_ffi.proofs.SlotForm.{Form, E, P, S, X, is_some, kept_in, opened, puts, value_of}
+use Rattle.psci_ffi.specs.contracts.place.Parts as Parts
+use Rattle.psci_ffi.proofs.SlotEmpty.{E, Form, P, S, X, is_some, kept_in, opened, puts, value_of}
 
 -- both take a value of one type and make one of the other
 abbrev moves : RattleType → RattleType → Ended

@@ -1,30 +1,27 @@
 -- Worked examples: a firmware that is polled: what is no new one, and what no acknowledgement
 -- changes of its values and writes of its statuses.
-use Rattle.std.proofs.Common.{◌≡◌, ℕ, ◌<◌, List, [], ◌∷◌, length, false, refl, sym}
-use Rattle.std.proofs.Common.{ap, ◌∙◌, subst, arith}
+use Rattle.std.proofs.Common.{◌<◌, ◌∙◌, ◌∷◌, ◌≡◌, List, [], ap, arith, false, length, refl, subst}
+use Rattle.std.proofs.Common.{sym, ℕ}
 use Rattle.atomic_table.specs.Seated.{TableId}
 use Rattle.psci_board.specs.Board.{BoardValue, cores}
-use Rattle.psci_fw.specs.Seen.{FirmwareValue, seen}
+use Rattle.psci_fw.specs.Reactions.{FirmwareValue, seen}
 use Rattle.psci_fw_spec.specs.declared.call.FwCall.TheVariants as calls
 use Rattle.psci_fw_spec.specs.declared.reply.FwReply.TheVariants as replies
 use Rattle.psci_fw_spec.specs.declared.status.Status.TheVariants.{Off, On, Pending}
-use Rattle.psci_fw_spec.specs.After.{after}
-use Rattle.psci_fw_spec.specs.AffinityInfo.{status_code}
+use Rattle.psci_fw_spec.specs.Effects.{after}
+use Rattle.psci_fw_spec.specs.PowerCalls.{status_code}
 use Rattle.psci_fw_spec.specs.History.{values_of}
-use Rattle.psci_fw_spec.specs.Taking.{taken_by}
-use Rattle.psci_fw_spec.specs.Values.{Values}
+use Rattle.psci_fw_spec.specs.Values.{Values, taken_by}
 use Rattle.psci_messages.specs.declared.kind.Kind.TheVariants as kinds
 use Rattle.psci_messages.specs.declared.start.Cause.TheVariants as causes
 use Rattle.psci_messages.specs.Message.{AckValue}
-use Rattle.psci_status.specs.Lists.{row}
-use Rattle.psci_status.specs.Polled.{IsWrittenFrom}
-use Rattle.psci_status.specs.Writing.{written_then}
-use Rattle.psci_status.proofs.Calls.{Step, board, boots, computing, enters, history, off, on}
+use Rattle.psci_status.specs.Lists.{IsWrittenFrom, row, written_then}
+use Rattle.psci_status.proofs.CallSteps.{Step, board, boots, computing, enters, history, off, on}
 use Rattle.psci_ffi.specs.Codes.{taken_code}
 use Rattle.psci_ffi.specs.Frames.{IsTaken}
 use Rattle.psci_ffi.specs.Shown.{IsNew}
 use Rattle.psci_ffi.proofs.PollerRows.{Rows, asked-rows, table, view}
-use Rattle.psci_ffi.proofs.Apart.{apart-by, itself}
+use Rattle.psci_ffi.proofs.ControlDone.{apart-by, itself}
 
 -- A new firmware ------------------------------------------------------------------------------
 

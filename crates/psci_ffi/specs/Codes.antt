@@ -1,18 +1,18 @@
 -- The numbers that C is answered, and those that it gives.
-use Rattle.std.specs.Prelude.{ℕ, Option, None, Some, Result, Ok, Err, ◌==◌, if◌then◌else◌}
+use Rattle.std.specs.Prelude.{if◌then◌else◌, ◌==◌, Err, None, Ok, Option, Result, Some, ℕ}
 use Rattle.psci_board.specs.declared.fault.BoardFault.{BoardFault}
-use Rattle.psci_board.specs.declared.fault.BoardFault.TheVariants.{Grammar, Uneven, TooWide}
-use Rattle.psci_board.specs.declared.fault.BoardFault.TheVariants.{TooManyCores, BadRange}
-use Rattle.psci_board.specs.declared.fault.BoardFault.TheVariants.{BadBoot, BadLimit, Memory}
+use Rattle.psci_board.specs.declared.fault.BoardFault.TheVariants.{BadBoot, BadLimit, BadRange}
+use Rattle.psci_board.specs.declared.fault.BoardFault.TheVariants.{Grammar, Memory, TooManyCores}
+use Rattle.psci_board.specs.declared.fault.BoardFault.TheVariants.{TooWide, Uneven}
 use Rattle.psci_fw_spec.specs.declared.fault.FwFault.{FwFault}
 use Rattle.psci_fw_spec.specs.declared.fault.FwFault.TheVariants.{NoCore, NoLife, NotRunning}
 use Rattle.psci_fw_spec.specs.declared.fault.FwFault.TheVariants.{OldStart}
 use Rattle.psci_fw_spec.specs.declared.hw.Hw.{Hw}
 use Rattle.psci_fw_spec.specs.declared.status.Status.{Status}
-use Rattle.psci_fw_spec.specs.declared.status.Status.TheVariants.{On, Off, Pending}
+use Rattle.psci_fw_spec.specs.declared.status.Status.TheVariants.{Off, On, Pending}
 use Rattle.psci_fw_spec.specs.NodeHwState.{hw_code}
-use Rattle.psci_link.specs.declared.fault.FrameFault.{FrameFault}
-use Rattle.psci_link.specs.declared.fault.FrameFault.TheVariants as faults
+use Rattle.psci_link.specs.declared.parts.FrameFault.{FrameFault}
+use Rattle.psci_link.specs.declared.parts.FrameFault.TheVariants as faults
 use Rattle.psci_messages.specs.declared.start.Cause.{Cause}
 use Rattle.psci_messages.specs.declared.start.Cause.TheVariants as causes
 use Rattle.psci_messages.specs.declared.taken.Taken.{Taken}

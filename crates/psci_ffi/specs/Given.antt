@@ -1,12 +1,11 @@
 -- The board that a struct of C gives, or the first fault of the struct.
-use Rattle.std.specs.Prelude.{ℕ, ◌%◌, ◌&&◌, not, Bool, true, List, [], ◌∷◌, length, map, take}
-use Rattle.std.specs.Prelude.{Option, Some, None, Result, Err, nat_lt, nat_le, ◌==◌}
-use Rattle.std.specs.Prelude.{if◌then◌else◌}
-use Rattle.std.specs.List.{list_any, list_all}
-use Rattle.psci_board.specs.psci_abi.declared.format.Format.{Format}
-use Rattle.psci_board.specs.psci_abi.declared.format.Format.TheVariants.{Original, Extended}
-use Rattle.psci_board.specs.declared.limits.TheConstants.{MOST_CORES, MOST_LEVELS}
-use Rattle.psci_board.specs.declared.range.AddressRange.{AddressRange}
+use Rattle.std.specs.Prelude.{if◌then◌else◌, ◌%◌, ◌&&◌, ◌==◌, ◌∷◌, Bool, Err, List, None, Option}
+use Rattle.std.specs.Prelude.{Result, Some, [], length, map, nat_le, nat_lt, not, take, true, ℕ}
+use Rattle.std.specs.List.{list_all, list_any}
+use Rattle.psci_board.specs.psci_abi.declared.registers.Format.{Format}
+use Rattle.psci_board.specs.psci_abi.declared.registers.Format.TheVariants.{Extended, Original}
+use Rattle.psci_board.specs.declared.draft.TheConstants.{MOST_CORES, MOST_LEVELS}
+use Rattle.psci_board.specs.declared.tree_text.AddressRange.{AddressRange}
 use Rattle.psci_board.specs.Board.{BoardValue, is_in_some, size_below}
 use Rattle.psci_board.specs.declared.draft.BoardDraft.{BoardDraft}
 use Rattle.psci_board.specs.declared.fault.BoardFault.{BoardFault}

@@ -1,14 +1,18 @@
--- What is in a place: a firmware, and what its calls name cores, domains, states and functions by.
-use Rattle.std.specs.Prelude.{ℕ, Option, None, Some}
+-- What is in a place: a firmware, the power of a guest, or one who polls; and what calls name
+-- cores, domains, states and functions by.
+use Rattle.std.specs.Prelude.{◌≡◌, List, None, Option, Some, map, ℕ}
+use Rattle.atomic_table.specs.Seated.{TableId}
 use Rattle.psci_abi.specs.declared.registers.Regs.{Regs}
-use Rattle.psci_board.specs.Board.{BoardValue}
+use Rattle.psci_board.specs.Board.{BoardValue, core_of}
 use Rattle.psci_fw_spec.specs.declared.mode.SuspendMode.{SuspendMode}
 use Rattle.psci_platform.specs.declared.asked.Asked.{Asked}
 use Rattle.psci_platform.specs.declared.asked.Asked.TheVariants.{Nothing}
 use Rattle.psci_platform.specs.Calls.{asked_for, regs_for}
 use Rattle.psci_platform.specs.Cores.{core_word}
 use Rattle.psci_platform.specs.Platforms.{PlatformValue}
-use Rattle.psci_status.specs.Polled.{PolledView}
+use Rattle.psci_status.specs.Lists.{IsPolledAs, Item, PolledView, newest}
+use Rattle.psci_guest.specs.Pair.{PairValue}
+use Rattle.psci_abi.specs.declared.registers.Code.{Code}
 use Rattle.psci_ffi.specs.declared.naming.Naming.{Naming}
 use Rattle.psci_ffi.specs.declared.naming.Naming.TheVariants.{Board, Machine}
 
@@ -41,3 +45,34 @@ asked_in (Some m) mode regs = asked_for m.description mode regs
 abbrev pub word_in : Option PlatformValue → ℕ → ℕ
 word_in None affinity = affinity
 word_in (Some m) affinity = core_word m.description m.board m.place affinity 0
+
+-- Guests ------------------------------------------------------------------------------------------
+
+-- The power of a guest, and the machine that its place was opened with, if there is one.
+pub record GuestValue : Type 0 where
+  pub power : PairValue
+  pub machine : Option PlatformValue
+
+-- One who polls -----------------------------------------------------------------------------------
+
+-- one who polls: the board, the machine, if there is one, the table of the status words, and what
+-- it has seen of each core
+pub record WatchView : Type 0 where
+  pub board : BoardValue
+  pub machine : Option PlatformValue
+  pub table : TableId
+  pub seen : List (List Item)
+
+-- one who polls this firmware, and has seen the last status of each core
+pub record IsWatchOf (f : PlaceValue) (w : WatchView) : Type 0 where
+  pub board : w.board ≡ f.polled.firmware.board
+  pub machine : w.machine ≡ f.machine
+  pub table : w.table ≡ f.polled.table
+  pub seen : w.seen ≡ map newest f.polled.written
+
+-- a poll of the core that the word names, of the board or of the machine, was answered this code
+pub record HasPolled (w : WatchView) (word : ℕ) (code : Code) (w' : WatchView) : Type 0 where
+  pub board : w'.board ≡ w.board
+  pub machine : w'.machine ≡ w.machine
+  pub table : w'.table ≡ w.table
+  pub answer : IsPolledAs (core_of w.board (word_in w.machine word)) w.seen w'.seen code

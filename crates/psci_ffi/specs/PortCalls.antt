@@ -1,8 +1,10 @@
--- What a core's monitor asks of the firmware in a place, and what C is told of it.
-use Rattle.std.specs.Prelude.{ℕ, Bool, true, false, if◌then◌else◌, Option, None, Some, option_map}
+-- What a core's monitor asks of the firmware in a place, what C is told of it, and which message C
+-- sends once more.
+use Rattle.std.specs.Prelude.{if◌then◌else◌, ◌&&◌, ◌==◌, Bool, None, Option, Some, false, nat_lt}
+use Rattle.std.specs.Prelude.{option_map, true, ℕ}
 use Rattle.psci_abi.specs.Calls.{request_of}
 use Rattle.psci_abi.specs.declared.registers.Regs.{Regs}
-use Rattle.psci_fw.specs.Seen.{seen}
+use Rattle.psci_fw.specs.Reactions.{seen}
 use Rattle.psci_fw_spec.specs.Answer.{answer}
 use Rattle.psci_fw_spec.specs.declared.call.FwCall.{FwCall}
 use Rattle.psci_fw_spec.specs.declared.call.FwCall.TheVariants as calls
@@ -14,14 +16,21 @@ use Rattle.psci_enter.specs.Side.{replied}
 use Rattle.psci_enter.specs.declared.post.Post.{Post}
 use Rattle.psci_enter.specs.declared.post.Post.TheVariants as posts
 use Rattle.psci_enter.specs.declared.side.FirmwareSide.{FirmwareSide}
+use Rattle.psci_board.specs.Board.{cores}
+use Rattle.psci_enter.specs.Again.{outstanding_in}
+use Rattle.psci_fw_spec.specs.declared.fault.FwFault.TheVariants.{NoCore}
+use Rattle.psci_link.specs.Frame.{kind_code}
+use Rattle.psci_messages.specs.Message.{MessageValue}
 use Rattle.psci_ffi.specs.declared.port_core.PortCore.{PortCore}
-use Rattle.psci_ffi.specs.declared.port_orders.PortOrders.{PortOrders}
-use Rattle.psci_ffi.specs.Codes.{no_firmware, no_side, out_of_order}
+use Rattle.psci_ffi.specs.declared.port_core.PortOrders.{PortOrders}
+use Rattle.psci_ffi.specs.Codes.{no_firmware, no_side, out_of_order, refusal}
 use Rattle.psci_ffi.specs.Namings.{PlaceValue}
-use Rattle.psci_ffi.specs.PortShown.{orders_refused, orders_shown, side_shown}
-use Rattle.psci_ffi.specs.PortShown.{start_kept, with_asked}
-use Rattle.psci_ffi.specs.Shown.{called_in, told_in}
-use Rattle.psci_ffi.specs.Slot.{Kept}
+use Rattle.psci_ffi.specs.PortShown.{orders_refused, orders_shown, side_shown, start_kept}
+use Rattle.psci_ffi.specs.PortShown.{with_asked}
+use Rattle.psci_ffi.specs.Shown.{called_in, frame_shown, no_frame, told_in}
+use Rattle.psci_ffi.specs.Slots.{Kept}
+use Rattle.psci_ffi.specs.declared.answer.SomeFrame.{SomeFrame}
+use Rattle.psci_ffi.specs.declared.port_calls.PortSent.{PortSent}
 
 -- the core of what C holds
 abbrev pub core_in : Option FirmwareSide → ℕ
@@ -108,3 +117,49 @@ port_entered k (Some s) = entry_shown k s (start_kept s.post)
 abbrev pub entry_left : Kept → PortCore → Option FirmwareSide → PortCore
 entry_left k old None = old
 entry_left k old (Some s) = entry_kept k old s (start_kept s.post)
+
+-- What C holds ---------------------------------------------------------------------------------
+
+-- what C holds of what is outstanding: all that an acknowledgement names, or zeros
+abbrev pub sent_shown : Option MessageValue → PortSent
+sent_shown None = record { kind = 0; life = 0; number = 0 }
+sent_shown (Some m) = record { kind = kind_code m.kind; life = m.life; number = m.number }
+
+-- what C holds is of this message
+abbrev pub is_sent : PortSent → MessageValue → Bool
+is_sent last m = last.kind == kind_code m.kind && (last.life == m.life && last.number == m.number)
+
+-- One look -------------------------------------------------------------------------------------
+
+-- what is sent once more, by what C holds and what is outstanding
+abbrev pub still_sent : PortSent → Option MessageValue → Option MessageValue
+still_sent last None = None
+still_sent last (Some m) = if is_sent last m then Some m else None
+
+-- what is said: 0 nothing is outstanding, 1 a message is that was not before, 2 the same is
+abbrev pub sent_number : PortSent → Option MessageValue → ℕ
+sent_number last None = 0
+sent_number last (Some m) = if is_sent last m then 2 else 1
+
+-- In a place -----------------------------------------------------------------------------------
+
+-- what is said of a core, or of the system at the number of cores
+abbrev pub again_said : Kept → ℕ → PortSent → ℕ
+again_said None number last = no_firmware
+again_said (Some f) number last =
+    if nat_lt (cores f.polled.firmware.board) number then refusal NoCore
+    else sent_number last (outstanding_in f.polled.firmware number)
+
+-- the frame that is sent once more
+abbrev pub again_shown : Kept → ℕ → PortSent → SomeFrame
+again_shown None number last = no_frame
+again_shown (Some f) number last =
+    if nat_lt (cores f.polled.firmware.board) number then no_frame
+    else frame_shown (still_sent last (outstanding_in f.polled.firmware number))
+
+-- what C holds then: a refusal leaves it
+abbrev pub again_left : Kept → ℕ → PortSent → PortSent
+again_left None number last = last
+again_left (Some f) number last =
+    if nat_lt (cores f.polled.firmware.board) number then last
+    else sent_shown (outstanding_in f.polled.firmware number)

@@ -1,5 +1,7 @@
--- What C holds of a core's monitor, and what it is told of what its side of a port orders.
-use Rattle.std.specs.Prelude.{◌≡◌, ℕ, List, Option, None, Some, ◌==◌, if◌then◌else◌, replicate}
+-- What C holds of a core's monitor, what it is told of what its side of a port orders, and what a
+-- monitor does without the firmware.
+use Rattle.std.specs.Prelude.{if◌then◌else◌, ◌==◌, ◌≡◌, Bool, List, None, Option, Some, replicate}
+use Rattle.std.specs.Prelude.{ℕ}
 use Rattle.psci_messages.specs.declared.start.Cause.{Cause}
 use Rattle.psci_messages.specs.declared.start.Start.{Start}
 use Rattle.psci_messages.specs.Message.{MessageValue}
@@ -12,15 +14,17 @@ use Rattle.psci_enter.specs.declared.post.Door.{Door}
 use Rattle.psci_enter.specs.declared.post.Post.{Post}
 use Rattle.psci_enter.specs.declared.post.Post.TheVariants as posts
 use Rattle.psci_enter.specs.declared.side.FirmwareSide.{FirmwareSide}
-use Rattle.psci_ffi.specs.declared.asked.GivenAsked.{GivenAsked}
-use Rattle.psci_ffi.specs.declared.controller_answer.ControllerStart.{ControllerStart}
+use Rattle.psci_enter.specs.declared.order.Look.{Look}
+use Rattle.psci_enter.specs.declared.order.Look.TheVariants as looks
+use Rattle.psci_enter.specs.Side.{found, looked, may_look}
+use Rattle.psci_ffi.specs.declared.answer.GivenAsked.{GivenAsked}
+use Rattle.psci_ffi.specs.declared.controller_calls.ControllerStart.{ControllerStart}
 use Rattle.psci_ffi.specs.declared.port_core.PortCore.{PortCore}
 use Rattle.psci_ffi.specs.declared.port_core.PortDoor.{PortDoor}
-use Rattle.psci_ffi.specs.declared.port_orders.PortOrders.{PortOrders}
-use Rattle.psci_ffi.specs.Codes.{cause_said, refusal}
-use Rattle.psci_ffi.specs.ControllerShown.{cause_number, start_shown}
-use Rattle.psci_ffi.specs.Shown.{frame_shown, no_frame, nothing_asked}
-use Rattle.psci_ffi.specs.Stops.{depths_of, is_down}
+use Rattle.psci_ffi.specs.declared.port_core.PortOrders.{PortOrders}
+use Rattle.psci_ffi.specs.Codes.{cause_said, no_cause, no_side, out_of_order, refusal}
+use Rattle.psci_ffi.specs.Controllers.{cause_number, start_shown}
+use Rattle.psci_ffi.specs.Shown.{depths_of, frame_shown, is_down, no_frame, nothing_asked}
 
 -- What C holds ---------------------------------------------------------------------------------
 
@@ -177,3 +181,58 @@ with_asked asked orders = record orders { asked = asked }
 -- what is ordered, as C sees it
 abbrev pub orders_shown : Orders → PortOrders
 orders_shown orders = with_sent orders.send (next_shown orders.next)
+
+-- Turns ----------------------------------------------------------------------------------------
+
+-- a core is at this post
+abbrev pub is_at : Post → Post → Bool
+is_at at post = post_number post == post_number at
+
+-- what is said of a turn that a core may make at some posts: 0 that it was made
+abbrev pub turn_said : (Post → Bool) → Option FirmwareSide → ℕ
+turn_said may None = no_side
+turn_said may (Some s) = if may s.post then 0 else out_of_order
+
+-- what it leaves
+abbrev pub turned : (Post → Bool) → (FirmwareSide → FirmwareSide) → PortCore
+    → Option FirmwareSide → PortCore
+turned may turn old None = old
+turned may turn old (Some s) = if may s.post then side_shown (turn s) else old
+
+-- of what C holds
+abbrev pub turn_left : (Post → Bool) → (FirmwareSide → FirmwareSide) → PortCore → PortCore
+turn_left may turn old = turned may turn old (side_given old)
+
+-- Looks ----------------------------------------------------------------------------------------
+
+-- the number of what a look finds
+abbrev pub look_number : Look → ℕ
+look_number looks.Enter = 0
+look_number (looks.Tell word) = 1
+look_number looks.Rest = 2
+
+-- what a look at this door says, by whether a wake-up is pending
+abbrev pub found_said : FirmwareSide → Option Door → Bool → ℕ
+found_said s None pending = no_cause
+found_said s (Some door) pending = look_number (found s door pending)
+
+-- the same where the core may look
+abbrev pub look_said : Option FirmwareSide → Option Door → Bool → ℕ
+look_said None door pending = no_side
+look_said (Some s) door pending =
+    if may_look s.post then found_said s door pending else out_of_order
+
+-- what a look at this door leaves
+abbrev pub found_left : PortCore → FirmwareSide → Option Door → Bool → PortCore
+found_left old s None pending = old
+found_left old s (Some door) pending = side_shown (looked (found s door pending) door s)
+
+-- the same where the core may look
+abbrev pub looked_left : PortCore → Option FirmwareSide → Option Door → Bool → PortCore
+looked_left old None door pending = old
+looked_left old (Some s) door pending =
+    if may_look s.post then found_left old s door pending else old
+
+-- of what C holds
+abbrev pub look_left : PortCore → Option Door → Bool → PortCore
+look_left old door pending = looked_left old (side_given old) door pending

@@ -1,29 +1,16 @@
--- What C reads of a place; an empty one is as a firmware before any core has entered.
-use Rattle.std.specs.Prelude.{ℕ, ◌^◌, ◌-◌, nat_le, if◌then◌else◌, Bool, true, false}
-use Rattle.std.specs.Prelude.{Option, None, Some, slice_get, unwrap_or}
-use Rattle.psci_board.specs.Board.{children, cores, has_node, height, nodes}
-use Rattle.psci_board.specs.declared.node.Node.{Node}
-use Rattle.psci_fw.specs.Seen.{hw_shown, seen, status_shown}
+-- What C reads of a firmware, and gets of its place for one who polls.
+use Rattle.std.specs.Prelude.{if◌then◌else◌, ◌-◌, ◌^◌, ◌≡◌, ◌⊎◌, Bool, IsSomeAnd, None, Option}
+use Rattle.std.specs.Prelude.{Some, false, nat_le, pos, slice_get, true, unwrap_or, ℕ, ℤ}
+use Rattle.psci_board.specs.Board.{BoardValue, has_node, height, nodes}
+use Rattle.psci_board.specs.declared.draft.Node.{Node}
+use Rattle.psci_fw.specs.Reactions.{FirmwareValue, hw_shown, seen, status_shown}
 use Rattle.psci_fw_spec.specs.declared.fault.FwFault.TheVariants.{NoCore}
-use Rattle.psci_fw_spec.specs.Phases.{is_running}
-use Rattle.psci_fw_state.specs.Seen.{message_shown}
 use Rattle.psci_platform.specs.Cores.{number_named}
 use Rattle.psci_platform.specs.Platforms.{PlatformValue}
 use Rattle.psci_platform.specs.Swaps.{moved, swap_for}
-use Rattle.psci_ffi.specs.declared.answer.SomeFrame.{SomeFrame}
-use Rattle.psci_ffi.specs.Codes.{hw_number, no_firmware, refusal, status_code}
-use Rattle.psci_ffi.specs.Shown.{frame_shown, no_frame}
-use Rattle.psci_ffi.specs.Slot.{Kept}
-
--- the life, 0 before any core has entered
-abbrev pub life_read : Kept → ℕ
-life_read None = 0
-life_read (Some f) = (seen f.polled.firmware).life
-
--- whether the life is halting
-abbrev pub halting_read : Kept → Bool
-halting_read None = false
-halting_read (Some f) = (seen f.polled.firmware).halting
+use Rattle.psci_ffi.specs.Codes.{hw_number, no_firmware, no_memory, refusal, status_code}
+use Rattle.psci_ffi.specs.Namings.{HasPolled, IsWatchOf, PlaceValue, WatchView}
+use Rattle.psci_ffi.specs.Slots.{Kept, KeptWatch}
 
 -- what is said of a core or power domain, by whether the board has it
 abbrev pub node_said : Bool → ℕ → ℕ
@@ -31,61 +18,21 @@ node_said false said = refusal NoCore
 node_said true said = said
 
 -- the status of a core or power domain
-abbrev pub status_read : Kept → Node → ℕ
-status_read None node = no_firmware
-status_read (Some f) node =
-    node_said (has_node f.polled.firmware.board node)
-    (status_code (status_shown f.polled.firmware node))
+abbrev pub status_said : FirmwareValue → Node → ℕ
+status_said f node = node_said (has_node f.board node) (status_code (status_shown f node))
 
 -- the granted depth of a power domain
-abbrev pub granted_read : Kept → Node → ℕ
-granted_read None node = no_firmware
-granted_read (Some f) node = node_said (has_node f.polled.firmware.board node)
-    ((seen f.polled.firmware).granted node.level node.place)
+abbrev pub granted_said : FirmwareValue → Node → ℕ
+granted_said f node =
+    node_said (has_node f.board node) ((seen f).granted node.level node.place)
 
 -- the hardware state of a core or power domain
-abbrev pub hw_read : Kept → Node → ℕ
-hw_read None node = no_firmware
-hw_read (Some f) node =
-    node_said (has_node f.polled.firmware.board node) (hw_number (hw_shown f.polled.firmware node))
+abbrev pub hw_said : FirmwareValue → Node → ℕ
+hw_said f node = node_said (has_node f.board node) (hw_number (hw_shown f node))
 
--- the known start of a core
-abbrev pub known_read : Kept → ℕ → ℕ
-known_read None core = 0
-known_read (Some f) core = (seen f.polled.firmware).known core
-
--- whether a core may call a function
-abbrev pub running_read : Kept → ℕ → Bool
-running_read None core = false
-running_read (Some f) core = is_running ((seen f.polled.firmware).phase core)
-
--- the outstanding message of a core, or of the system at the number of cores
-abbrev pub outstanding_read : Kept → ℕ → SomeFrame
-outstanding_read None number = no_frame
-outstanding_read (Some f) number =
-    frame_shown (message_shown f.polled.firmware.board (seen f.polled.firmware) number)
-
--- how many cores the board has
-abbrev pub cores_read : Kept → ℕ
-cores_read None = 0
-cores_read (Some f) = cores f.polled.firmware.board
-
--- the level of the system
-abbrev pub height_read : Kept → ℕ
-height_read None = 0
-height_read (Some f) = height f.polled.firmware.board
-
--- how many cores or power domains the board has on a level: none above the system
-abbrev pub nodes_read : Kept → ℕ → ℕ
-nodes_read None level = 0
-nodes_read (Some f) level =
-    if nat_le level (height f.polled.firmware.board) then nodes f.polled.firmware.board level else 0
-
--- how many children a power domain has: none below a core, or below one that the board does not
--- have
-abbrev pub children_read : Kept → Node → ℕ
-children_read None node = 0
-children_read (Some f) node = children f.polled.firmware.board node
+-- how many cores or power domains a board has on a level: none above the system
+abbrev pub nodes_said : BoardValue → ℕ → ℕ
+nodes_said b level = if nat_le level (height b) then nodes b level else 0
 
 -- the number of the core with this MPIDR; a number that no core has where there is none
 abbrev pub core_in : Option PlatformValue → ℕ → ℕ
@@ -104,19 +51,25 @@ abbrev pub place_in : Option PlatformValue → Node → ℕ
 place_in None n = n.place
 place_in (Some m) n = (moved m.board m.place n).place
 
--- the machine that a place was opened with
-abbrev pub machine_read : Kept → Option PlatformValue
-machine_read None = None
-machine_read (Some f) = f.machine
+-- One who polls -----------------------------------------------------------------------------------
 
--- the number of the core with this MPIDR, by what a place was opened with
-abbrev pub core_read : Kept → ℕ → ℕ
-core_read k mpidr = core_in (machine_read k) mpidr
+-- what was said of filling a poller with one who polls, and what is in it then
+abbrev pub IsFilledWith : WatchView → ℕ → KeptWatch → KeptWatch → Type 0
+IsFilledWith w said old new =
+    ((said ≡ 0) × (new ≡ Some w)) ⊎ ((said ≡ no_memory) × (new ≡ old))
 
--- the MPIDR of this core
-abbrev pub mpidr_read : Kept → ℕ → ℕ
-mpidr_read k core = mpidr_in (machine_read k) core
+-- what was said of opening a poller of this firmware, and what is in it then: one who polls, or for
+-- want of memory what was there
+abbrev pub IsOpenedFor : PlaceValue → ℕ → KeptWatch → KeptWatch → Type 0
+IsOpenedFor f said old new =
+    ((said ≡ 0) × IsSomeAnd new (IsWatchOf f)) ⊎ ((said ≡ no_memory) × (new ≡ old))
 
--- the place in the order of the tree
-abbrev pub place_read : Kept → Node → ℕ
-place_read k n = place_in (machine_read k) n
+-- the same of a place; of an empty one no poller is opened
+abbrev pub OpensPoller : Kept → ℕ → KeptWatch → KeptWatch → Type 0
+OpensPoller None said old new = (said ≡ no_firmware) × (new ≡ old)
+OpensPoller (Some f) said old new = IsOpenedFor f said old new
+
+-- what a poll of the core that the word names answers, and what it leaves; an empty poller has none
+abbrev pub HasPolledIn : KeptWatch → ℕ → ℤ → KeptWatch → Type 0
+HasPolledIn None word code left = (code ≡ pos no_firmware) × (left ≡ None)
+HasPolledIn (Some w) word code left = IsSomeAnd left (HasPolled w word (record { 0 = code }))

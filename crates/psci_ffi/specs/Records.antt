@@ -1,6 +1,6 @@
 -- What C gives of an event of a record, and what its line says.
-use Rattle.std.specs.Prelude.{◌≡◌, ◌≤◌, ℕ, ℤ, pos, ◌%◌, ◌^◌, ◌==◌, if◌then◌else◌, nat_lt}
-use Rattle.std.specs.Prelude.{List, length, take, Option, None, Some}
+use Rattle.std.specs.Prelude.{if◌then◌else◌, ◌==◌, ◌≡◌, ◌≤◌, List, None, Option, Some, length}
+use Rattle.std.specs.Prelude.{nat_lt, pos, take, ℕ, ℤ}
 use Rattle.std.specs.Int.{cast_signed, w32}
 use Rattle.std.specs.Ordering.{int_eq}
 use Rattle.psci_abi.specs.Calls.{low_half}
@@ -19,8 +19,8 @@ use Rattle.psci_record.specs.declared.line.Taken.{Taken}
 use Rattle.psci_record.specs.declared.line.Taken.TheVariants as takes
 use Rattle.psci_ffi.specs.declared.answer.Answer.{Answer}
 use Rattle.psci_ffi.specs.declared.answer.SomeFrame.{SomeFrame}
-use Rattle.psci_ffi.specs.declared.controller_answer.ControllerStart.{ControllerStart}
-use Rattle.psci_ffi.specs.declared.port_orders.PortOrders.{PortOrders}
+use Rattle.psci_ffi.specs.declared.controller_calls.ControllerStart.{ControllerStart}
+use Rattle.psci_ffi.specs.declared.port_core.PortOrders.{PortOrders}
 use Rattle.psci_ffi.specs.declared.record_line.RecordCore.{RecordCore}
 use Rattle.psci_ffi.specs.declared.record_line.RecordLine.{RecordLine}
 use Rattle.psci_ffi.specs.Codes.{no_firmware}

@@ -1,34 +1,41 @@
--- What C is told, and what a call leaves in a place.
-use Rattle.std.specs.Prelude.{◌≡◌, ℕ, ℤ, true, false, pos, Option, None, Some}
-use Rattle.std.specs.Prelude.{[], ◌∷◌, Result, Ok, Err, IsOk, IsSomeAnd, option_map, replicate}
+-- What C is told, what a call leaves in a place, and what C reads of a stop.
+use Rattle.std.specs.Prelude.{◌&&◌, ◌==◌, ◌||◌, ◌∷◌, ◌≡◌, Bool, Err, IsOk, IsSomeAnd, List, None}
+use Rattle.std.specs.Prelude.{Ok, Option, Result, Some, [], false, map, option_map, pos, replicate}
+use Rattle.std.specs.Prelude.{slice_get, true, ℕ, ℤ}
 use Rattle.psci_abi.specs.declared.registers.Regs.{Regs}
 use Rattle.psci_board.specs.Board.{BoardValue, cores}
 use Rattle.psci_board.specs.declared.fault.BoardFault.{BoardFault}
 use Rattle.psci_board.specs.declared.fault.BoardFault.TheVariants.{Memory}
-use Rattle.psci_fw.specs.Seen.{seen}
+use Rattle.psci_fw.specs.Reactions.{seen}
 use Rattle.psci_fw_spec.specs.declared.call.FwCall.{FwCall}
 use Rattle.psci_fw_spec.specs.declared.call.FwCall.TheVariants as calls
 use Rattle.psci_fw_spec.specs.declared.outcome.Act.{Act}
-use Rattle.psci_fw_spec.specs.declared.outcome.Act.TheVariants.{Return, Stop, Enter, Resume}
+use Rattle.psci_fw_spec.specs.declared.outcome.Act.TheVariants.{Enter, Resume, Return, Stop}
 use Rattle.psci_fw_spec.specs.declared.reply.FwReply.{FwReply}
-use Rattle.psci_fw_spec.specs.declared.reply.FwReply.TheVariants.{Out, Taken, Fault}
+use Rattle.psci_fw_spec.specs.declared.reply.FwReply.TheVariants.{Fault, Out, Taken}
 use Rattle.psci_fw_spec.specs.declared.status.Status.TheVariants.{Off}
 use Rattle.psci_fw_spec.specs.Answer.{answer}
-use Rattle.psci_fw_spec.specs.Lives.{start_of_life}
-use Rattle.psci_link.specs.declared.frame.Frame.TheVariants.{Message}
+use Rattle.psci_fw_spec.specs.Changes.{start_of_life}
+use Rattle.psci_link.specs.declared.encoding.Frame.TheVariants.{Message}
 use Rattle.psci_link.specs.Frame.{frame_bytes}
 use Rattle.psci_messages.specs.Message.{MessageValue}
+use Rattle.psci_platform.specs.declared.asked.Asked.{Asked}
+use Rattle.psci_platform.specs.declared.asked.Asked.TheVariants.{Nothing, Reset, States}
+use Rattle.psci_platform.specs.Platforms.{PlatformValue}
+use Rattle.psci_status.specs.Lists.{IsNext, PolledView}
+use Rattle.psci_abi.specs.Calls.{low_half}
+use Rattle.psci_fw_state.specs.Seen.{message_shown}
+use Rattle.psci_messages.specs.declared.kind.Kind.{Kind}
+use Rattle.psci_messages.specs.declared.kind.Kind.TheVariants as kinds
+use Rattle.psci_messages.specs.declared.part.Part.{Part}
 use Rattle.psci_ffi.specs.declared.answer.Answer.{Answer}
 use Rattle.psci_ffi.specs.declared.answer.SomeFrame.{SomeFrame}
-use Rattle.psci_ffi.specs.declared.asked.GivenAsked.{GivenAsked}
+use Rattle.psci_ffi.specs.declared.answer.GivenAsked.{GivenAsked}
 use Rattle.psci_ffi.specs.declared.naming.Naming.{Naming}
 use Rattle.psci_ffi.specs.Codes.{cause_said, no_cause, no_firmware, refusal}
 use Rattle.psci_ffi.specs.Namings.{PlaceValue, asked_in, board_of, machine_of, regs_in}
-use Rattle.psci_platform.specs.declared.asked.Asked.{Asked}
-use Rattle.psci_platform.specs.declared.asked.Asked.TheVariants.{Nothing, States, Reset}
-use Rattle.psci_platform.specs.Platforms.{PlatformValue}
-use Rattle.psci_status.specs.Polled.{IsNext, PolledView}
-use Rattle.psci_ffi.specs.Slot.{Kept}
+use Rattle.psci_ffi.specs.Slots.{Kept}
+use Rattle.psci_ffi.specs.declared.calls.Stopping.{Stopping}
 
 -- Answers --------------------------------------------------------------------------------------
 
@@ -162,15 +169,59 @@ IsNewIn naming = IsNewPlace (board_of naming) (machine_of naming)
 abbrev pub IsNewOn : BoardValue → PlaceValue → Type 0
 IsNewOn b = IsNewPlace b None
 
--- the place has the new firmware of the board of this text, in its own words
-abbrev pub IsOpened : Result BoardValue BoardFault → Kept → Type 0
-IsOpened (Ok board) left = IsSomeAnd left (IsNewOn board)
-IsOpened (Err fault) left = ⊥
+-- What an opening with this end leaves in a place of any kind, by what is said of the board: what
+-- is made of it, or the same as before. Memory is answered only where the board has no fault, and
+-- whatever is answered, nothing changes but by an opening.
+abbrev pub OpensAs : (BoardValue → Type 0) → Type 0 → Result Unit BoardFault
+    → Result BoardValue BoardFault → Type 0
+OpensAs Made Same (Ok done) (Ok board) = Made board
+OpensAs Made Same (Ok done) (Err fault) = ⊥
+OpensAs Made Same (Err Memory) said = IsOk said × Same
+OpensAs Made Same (Err fault) said = (said ≡ Err fault) × Same
 
--- What an opening with this end leaves in a place, by what is said of the board text. Memory is
--- answered only where the text has no fault, and whatever is answered, nothing changes but by an
--- opening.
+-- the new firmware of this board, in its own words
 abbrev pub Opens : Result Unit BoardFault → Result BoardValue BoardFault → Kept → Kept → Type 0
-Opens (Ok done) said old left = IsOpened said left
-Opens (Err Memory) said old left = IsOk said × (left ≡ old)
-Opens (Err fault) said old left = (said ≡ Err fault) × (left ≡ old)
+Opens end said old left = OpensAs (λ b. IsSomeAnd left (IsNewOn b)) (left ≡ old) end said
+
+-- Stops -------------------------------------------------------------------------------------------
+
+-- the depth that a part asks, 0 where there is none
+abbrev pub depth_of : Option Part → ℕ
+depth_of None = 0
+depth_of (Some p) = p.depth
+
+-- the depths that the parts of a message ask: they count up from level 0
+abbrev pub depths_of : List Part → List ℕ
+depths_of ps = map (λ level. depth_of (slice_get ps level)) (0 ∷ 1 ∷ 2 ∷ 3 ∷ [])
+
+-- whether a message takes domains down
+abbrev pub is_down : Kind → Bool
+is_down kinds.Down = true
+is_down kinds.Start = false
+is_down kinds.Off = false
+is_down kinds.Reset = false
+
+-- whether a call with this x0 suspends its caller, so that a wake-up may end its stop: CPU_SUSPEND
+-- or SYSTEM_SUSPEND, by either convention
+abbrev pub is_suspend : ℕ → Bool
+is_suspend x0 =
+    low_half x0 == 0x84000001 || low_half x0 == 0xC4000001
+    || low_half x0 == 0x8400000E || low_half x0 == 0xC400000E
+
+-- nothing goes down, and no wake-up ends it
+abbrev pub no_stop : Stopping
+no_stop = record { depths = replicate 4 0; wakes = false }
+
+-- the stop by which this message was sent, if one was, after a call with this x0
+abbrev pub stop_sent : Option MessageValue → ℕ → Stopping
+stop_sent None x0 = no_stop
+stop_sent (Some m) x0 = record {
+  depths = depths_of m.parts;
+  wakes = is_down m.kind && is_suspend x0;
+}
+
+-- the stop that a core was answered last
+abbrev pub stop_read : Kept → ℕ → ℕ → Stopping
+stop_read None core x0 = no_stop
+stop_read (Some f) core x0 =
+    stop_sent (message_shown f.polled.firmware.board (seen f.polled.firmware) core) x0

@@ -1,19 +1,65 @@
-//! What C is answered.
+//! What C is answered, and what a call asks beside what the firmware is told.
 
 ghost use Rattle.std.specs.Prelude.{◌≡◌, option_map};
-ghost use Rattle.psci_fw.specs.Reactions.{reply_in};
-ghost use Rattle.psci_fw.specs.Seen.{seen};
+ghost use Rattle.psci_fw.specs.Reactions.{reply_in, seen};
 ghost use Rattle.psci_fw_spec.specs.declared.reply.FwReply.TheVariants.{Out};
-ghost use Rattle.psci_ffi.specs.Shown.{act_shown, frame_shown, no_frame, plain};
-ghost use Rattle.psci_ffi.specs.Shown.{refused, shown, with_asked};
+ghost use Rattle.psci_ffi.specs.Shown.{act_shown, asked_shown, frame_shown, no_frame};
+ghost use Rattle.psci_ffi.specs.Shown.{nothing_asked, refused, shown, with_asked};
 
-use crate::asked::{GivenAsked, nothing_asked};
 use crate::codes::refusal;
 use crate::held::Held;
 use psci_fw::{Act, FwFault, Outcome, Reaction};
-use psci_link::{FRAME_LEN, Frame, encode, write_message};
+use psci_link::{FRAME_LEN, write_message};
 use psci_messages::Message;
+use psci_platform::Asked;
 use std::mem::size_of;
+
+/// What a call asks beside what the firmware is told.
+#[repr(C)]
+#[derive(Clone, Copy)]
+pub struct GivenAsked {
+    /// 0 nothing, 1 states, 2 a reset of the vendor.
+    pub what: u32,
+    /// The number of the state of each level, from the core's up; else zeros.
+    pub states: [u8; 4],
+    /// The reset type; else 0.
+    pub reset: u32,
+}
+
+// The size that psci.h gives it.
+const _: () = prove!(size_of::<GivenAsked>() == 12);
+
+/// What is asked, as C sees it.
+#[inline(always)]
+pub fn asked_shown(asked: Asked) -> GivenAsked
+    ensures { result ≡ asked_shown asked }
+{
+    match asked {
+        Asked::Nothing => nothing_asked(),
+        Asked::States(states) => GivenAsked {
+            what: 1,
+            states,
+            reset: 0,
+        },
+        Asked::Reset(reset) => GivenAsked {
+            what: 2,
+            states: [0; 4],
+            reset,
+        },
+    }
+}
+
+/// Nothing is asked.
+#[inline(always)]
+pub fn nothing_asked() -> GivenAsked
+    ensures { result ≡ nothing_asked }
+{
+    GivenAsked {
+        what: 0,
+        states: [0; 4],
+        reset: 0,
+    }
+}
 
 /// A frame, if there is one.
 #[repr(C)]
@@ -59,36 +105,16 @@ pub fn no_frame() -> SomeFrame
     }
 }
 
-/// The frame of a message, if there is one.
-pub fn frame_of(message: Option<Message>) -> SomeFrame
-    ensures { result ≡ frame_shown message }
-{
-    match message {
-        None => no_frame(),
-        Some(message) => SomeFrame {
-            some: true,
-            bytes: encode(&Frame::Message(message)),
-        },
-    }
-}
-
 /// A refusal.
 pub fn refused(what: u32) -> Answer
     ensures { result ≡ refused what }
-{
-    plain(what, no_frame())
-}
-
-/// An answer without numbers.
-fn plain(what: u32, message: SomeFrame) -> Answer
-    ensures { result ≡ plain what message }
 {
     Answer {
         what,
         code: 0,
         address: 0,
         context: 0,
-        message,
+        message: no_frame(),
         asked: nothing_asked(),
     }
 }

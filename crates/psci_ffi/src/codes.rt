@@ -1,8 +1,8 @@
-//! The numbers that C is answered.
+//! The numbers that C is answered, and the version of the library.
 
-ghost use Rattle.std.specs.Prelude.{◌≡◌, ◌<◌};
-ghost use Rattle.psci_ffi.specs.Codes.{cause_said, frame_code, opened_said, refusal, status_code};
-ghost use Rattle.psci_ffi.specs.Codes.{hw_number, no_firmware, taken_code};
+ghost use Rattle.std.specs.Prelude.{◌<◌, ◌≡◌};
+ghost use Rattle.psci_ffi.specs.Codes.{cause_said, frame_code, hw_number, no_firmware, opened_said};
+ghost use Rattle.psci_ffi.specs.Codes.{refusal, status_code, taken_code};
 
 use psci_board::BoardFault;
 use psci_fw::{Cause, FwFault, Hw, Status, Taken};
@@ -114,4 +114,15 @@ pub fn hw_number(hw: Option<Hw>) -> u32
         Some(Hw::Standby) => 2,
         None => 18,
     }
+}
+
+/// 1.0.0: the major number in bits 16 to 31, the minor one in bits 8 to 15, the patch below.
+pub const VERSION_OF_LIBRARY: u32 = 0x0001_0000;
+
+/// The version of the library, as `PSCI_VERSION_OF_LIBRARY` of its headers.
+#[unsafe(no_mangle)]
+pub extern "C" fn psci_version_of_library() -> u32
+    ensures { result ≡ 65536 }
+{
+    VERSION_OF_LIBRARY
 }

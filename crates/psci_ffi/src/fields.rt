@@ -1,12 +1,22 @@
 //! A frame as C reads and writes it: a struct of its fields.
 
-ghost use Rattle.std.specs.Prelude.{◌≡◌, ◌≤◌, length, take};
-ghost use Rattle.psci_link.specs.declared.frame.Frame.TheVariants as frames;
+ghost use Rattle.std.specs.Prelude.{◌+◌, ◌<◌, ◌^◌, ◌≡◌, ◌≤◌, length, map, option_map, take};
+ghost use Rattle.psci_link.specs.declared.encoding.Frame.TheVariants as frames;
 ghost use Rattle.psci_link.specs.Frame.{kind_code};
-ghost use Rattle.psci_ffi.specs.Fields.{fields_of, part_at, part_given, parts_of};
+ghost use Rattle.psci_link.specs.declared.decoding.Heading.TheVariants as headings;
+ghost use Rattle.psci_messages.specs.Message.{is_climbing, is_falling, most_applied};
+ghost use Rattle.psci_ffi.specs.Frames.{IsDecoded, IsDecodedIn, fields_of, frame_given};
+ghost use Rattle.psci_ffi.specs.Frames.{frame_spelled, frame_with, has_parts, part_at, part_given};
+ghost use Rattle.psci_ffi.specs.Frames.{parts_of};
 
-use psci_link::Frame;
-use psci_messages::{Ack, Kind, MOST_PARTS, Message, Part};
+use crate::answer::{SomeFrame, no_frame};
+use crate::codes::{NO_FIRMWARE, frame_code};
+use crate::held::Held;
+use crate::place::Place;
+use psci_board::Core;
+use psci_link::{Frame, Heading, decode, encode};
+use psci_messages::{Ack, Kind, MOST_PARTS, Message, Part, Parts};
+use psci_state::POWER_DOWN;
 use std::mem::size_of;
 
 /// A part of a message: what it asks of the power domain of one level.
@@ -149,5 +159,159 @@ fn part_at(parts: &[Part], place: usize) -> PartFields
             depth: part.depth,
             generation: part.generation,
         },
+    }
+}
+
+/// How many cores a frame can name.
+const MOST_NAMED: u16 = 256;
+
+/// Writes the frame of these fields, of a message or of an acknowledgement; none where they are
+/// those of no frame. Parts that are not counted are not looked at, nor is a part of an
+/// acknowledgement.
+#[unsafe(no_mangle)]
+pub extern "C" fn psci_encode(fields: &Fields, frame: &mut SomeFrame)
+    ensures { frame.new ≡ frame_spelled (frame_given fields.now) }
+{
+    *frame = match frame_given(fields) {
+        None => no_frame(),
+        Some(frame) => SomeFrame {
+            some: true,
+            bytes: encode(&frame),
+        },
+    };
+}
+
+/// The frame of these fields, if there is one.
+fn frame_given(fields: &Fields) -> Option<Frame>
+    ensures { result ≡ frame_given fields.now }
+{
+    match Heading::of(fields.kind)? {
+        Heading::Message(kind) => message_given(kind, fields).map(Frame::Message),
+        Heading::Ack(kind, stale) => ack_given(kind, stale, fields).map(Frame::Ack),
+    }
+}
+
+/// The message of this kind and these fields, if it is one.
+#[tactic(auto, using(crate::proofs::GivenBoards::fit))]
+fn message_given(kind: Kind, fields: &Fields) -> Option<Message>
+    ensures { option_map frames.Message result ≡ frame_with fields.now (headings.Message kind) }
+{
+    if fields.core >= MOST_NAMED || fields.count as usize > MOST_PARTS {
+        return None;
+    }
+    let parts = parts_given(fields.counted());
+    if !has_parts(kind, parts.as_slice()) {
+        return None;
+    }
+    let number = fields.core;
+    Some(Message {
+        kind,
+        core: Core { number },
+        life: fields.life,
+        number: fields.number,
+        parts,
+    })
+}
+
+/// The acknowledgement of a message of this kind, if it is one.
+fn ack_given(kind: Kind, stale: bool, fields: &Fields) -> Option<Ack>
+    ensures { option_map frames.Ack result ≡ frame_with fields.now (headings.Ack kind stale) }
+{
+    if fields.core >= MOST_NAMED || fields.count > most_applied(kind) {
+        return None;
+    }
+    Some(Ack {
+        kind,
+        core: Core {
+            number: fields.core,
+        },
+        life: fields.life,
+        number: fields.number,
+        applied: fields.count,
+        stale,
+    })
+}
+
+/// How much of a message of this kind can be applied.
+fn most_applied(kind: Kind) -> u8
+    ensures { result ≡ most_applied kind }
+{
+    match kind {
+        Kind::Down => MOST_PARTS as u8,
+        _ => 1,
+    }
+}
+
+/// These parts.
+fn parts_given(given: &[PartFields]) -> Parts
+    requires { length given.now ≤ MOST_PARTS }
+    ensures { result ≡ map part_given given.now }
+{
+    let mut parts = Parts::new();
+    for part in given {
+        parts.push(part.part());
+    }
+    parts
+}
+
+/// Whether a message of this kind may have these parts.
+fn has_parts(kind: Kind, parts: &[Part]) -> bool
+    requires { length parts.now ≤ MOST_PARTS }
+    ensures { result ≡ has_parts kind parts.now }
+{
+    match kind {
+        Kind::Down => {
+            !parts.is_empty() && is_climbing(0, parts) && is_falling(POWER_DOWN, parts)
+        }
+        _ => parts.is_empty(),
+    }
+}
+
+/// Whether the levels count up from this one.
+fn is_climbing(level: u32, parts: &[Part]) -> bool
+    requires { level + length parts.now < 2 ^ 32 }
+    ensures { result ≡ is_climbing level parts.now }
+{
+    match parts {
+        [] => true,
+        [part, above @ ..] => part.level == level && is_climbing(level + 1, above),
+    }
+}
+
+/// Whether each depth is at least 1, and none is above the one before it, the first not above the
+/// given one.
+fn is_falling(most: u8, parts: &[Part]) -> bool
+    ensures { result ≡ is_falling most parts.now }
+{
+    match parts {
+        [] => true,
+        [part, above @ ..] => {
+            0 < part.depth && part.depth <= most && is_falling(part.depth, above)
+        }
+    }
+}
+
+/// Reads the fields of the frame that these bytes are on the board of the firmware, of a message or
+/// of an acknowledgement: 0. Else 33 to 40, the number of the frame's first fault, or 16 where
+/// there is no firmware, and nothing is written.
+#[unsafe(no_mangle)]
+pub extern "C" fn psci_decode(place: &mut Place, frame: &[u8], fields: &mut Fields) -> u32
+    ensures read { IsDecodedIn place.old.slot.kept frame.now result fields.old fields.new }
+    ensures same { place.new.slot.kept ≡ place.old.slot.kept }
+{
+    let held = lent!(place.held else NO_FIRMWARE);
+    read(held, frame, fields)
+}
+
+/// The same of a firmware.
+fn read(held: &Held, bytes: &[u8], fields: &mut Fields) -> u32
+    ensures { IsDecoded held.now.polled bytes.now result fields.old fields.new }
+{
+    match decode(bytes, held.board()) {
+        Err(fault) => frame_code(fault),
+        Ok(frame) => {
+            *fields = fields_of(&frame);
+            0
+        }
     }
 }

@@ -1,8 +1,20 @@
 //! What is in a place: a firmware with its status words, and what its calls name things by.
 
-use crate::asked::{GivenAsked, asked_shown, nothing_asked};
-use crate::common::{Common, share};
-use crate::naming::Naming;
+ghost use Rattle.std.specs.Prelude.{◌≡◌, IfOk, OnErr, option_map, ℕ};
+ghost use Rattle.psci_fw.specs.Reactions.{reply_in, seen, sent_from};
+ghost use Rattle.psci_fw_spec.specs.Answer.{answer};
+ghost use Rattle.psci_fw_spec.specs.declared.call.FwCall.TheVariants as calls;
+ghost use Rattle.psci_fw_spec.specs.declared.reply.FwReply.TheVariants as replies;
+ghost use Rattle.psci_messages.specs.Message.{AckValue, MessageValue};
+ghost use Rattle.psci_status.specs.Seats.{table};
+ghost use Rattle.psci_ffi.specs.Frames.{IsAcknowledged, IsFaulty, IsMisplaced};
+ghost use Rattle.psci_ffi.specs.Namings.{IsWatchOf, asked_in, machine_of, regs_in};
+ghost use Rattle.psci_ffi.specs.Shown.{IsNewIn, IsNextIn, asked_shown};
+
+use crate::answer::GivenAsked;
+use crate::codes::{NOT_AN_ACK, frame_code, taken_code};
+use crate::naming::{Common, Naming, share};
+use crate::poller::Watch;
 use psci_board::{Board, Core, Memory};
 use psci_fw::{Firmware, FwFault, Reaction, Regs, Start, Taken};
 use psci_link::{Heading, ack_in, heading_on};
@@ -38,22 +50,6 @@ impl Model for Held {
         (board_of (arc_value h.common).naming ≡ h.polled.firmware.board)
         × (table (arc_value h.common).words ≡ h.polled.table) };
 }
-
-ghost use Rattle.std.specs.Prelude.{◌≡◌, ℕ, IfOk, OnErr, option_map};
-ghost use Rattle.psci_fw.specs.Reactions.{reply_in, sent_from};
-ghost use Rattle.psci_fw.specs.Seen.{seen};
-ghost use Rattle.psci_fw_spec.specs.Answer.{answer};
-ghost use Rattle.psci_fw_spec.specs.declared.call.FwCall.TheVariants as calls;
-ghost use Rattle.psci_fw_spec.specs.declared.reply.FwReply.TheVariants as replies;
-ghost use Rattle.psci_messages.specs.Message.{AckValue, MessageValue};
-ghost use Rattle.psci_status.specs.Seats.{table};
-ghost use Rattle.psci_ffi.specs.Frames.{IsAcknowledged, IsFaulty, IsMisplaced};
-ghost use Rattle.psci_ffi.specs.Namings.{asked_in, machine_of, regs_in};
-ghost use Rattle.psci_ffi.specs.Shown.{IsNewIn, IsNextIn, asked_shown};
-ghost use Rattle.psci_ffi.specs.Watching.{IsWatchOf};
-
-use crate::codes::{NOT_AN_ACK, frame_code, taken_code};
-use crate::watch::Watch;
 
 impl Held {
     /// A new firmware of this board, in these words.
@@ -106,17 +102,8 @@ impl Held {
         ensures asked { asked.new
             ≡ asked_shown (asked_in self.now.machine (seen self.now.polled.firmware).mode regs) }
     {
-        match self.machine() {
-            None => {
-                *asked = nothing_asked();
-                regs
-            }
-            Some(machine) => {
-                let call = machine.translate(self.polled.firmware().mode(), regs);
-                *asked = asked_shown(call.asked);
-                call.regs
-            }
-        }
+        let mode = self.polled.firmware().mode();
+        self.common.naming.called(mode, regs, asked)
     }
 
     /// `Firmware::enter_in_slot`. It is compiled once for each `A`, as that is.

@@ -11,69 +11,41 @@
 //! - A *refusal* is an answer from 16 on: the caller's mistake has a number, and nothing changed.
 #![tactic(auto)]
 
+/// What is in a place, where it stands. The call ends with this where the place is empty.
+macro_rules! lent {
+    ($place:ident.$kind:ident else $empty:expr) => {{
+        if !$place.full {
+            return $empty;
+        }
+        $place.slot.$kind()
+    }};
+}
+
 mod answer;
-mod asked;
-mod board_readers;
 mod calls;
 mod codes;
-mod common;
 mod control_calls;
 mod control_doors;
-mod control_lending;
-mod control_opening;
-mod control_orders;
 mod control_place;
-mod control_readers;
-mod control_slot;
-mod controller_acting;
-mod controller_answer;
 mod controller_calls;
-mod controller_lending;
-mod controller_opening;
 mod controller_place;
 mod controller_readers;
-mod controller_saving;
-mod controller_slot;
-mod decoding;
-mod encoding;
 mod fields;
 mod given;
-mod given_build;
-mod given_fault;
 mod guest;
 mod guest_calls;
-mod guest_lending;
-mod guest_machine;
 mod guest_opening;
-mod guest_place;
 mod guest_readers;
-mod guest_saving;
-mod guest_slot;
-mod guest_turn;
 mod held;
-mod lending;
-mod machine_fault;
-mod machine_given;
-mod machine_names;
-mod machine_opening;
+mod machine;
 mod naming;
 mod opening;
-mod parts;
 mod place;
 mod poller;
-mod poller_lending;
-mod poller_slot;
-mod polling;
-mod port_again;
 mod port_calls;
 mod port_core;
-mod port_orders;
 mod port_turns;
 mod readers;
 mod record_calls;
 mod record_line;
 mod record_link;
-mod slot;
-mod stop;
-mod version;
-mod watch;

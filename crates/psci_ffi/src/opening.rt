@@ -1,14 +1,15 @@
 //! Making a firmware, and letting it go.
 
-ghost use Rattle.std.specs.Prelude.{◌≡◌, Err, None, Ok, IfErr, IfOk, IsSomeAnd, option_map};
+ghost use Rattle.std.specs.Prelude.{◌≡◌, Err, IfErr, IfOk, IsSomeAnd, None, Ok, Result};
+ghost use Rattle.psci_board.specs.Board.{BoardValue};
+ghost use Rattle.psci_board.specs.declared.fault.BoardFault.{BoardFault};
 ghost use Rattle.psci_board.specs.Verdict.{Answers, board_of};
 ghost use Rattle.psci_ffi.specs.Codes.{opened_said};
 ghost use Rattle.psci_ffi.specs.Given.{board_of_given};
 ghost use Rattle.psci_ffi.specs.Shown.{IsNewIn, Opens};
 
 use crate::codes::opened_code;
-use crate::given::GivenBoard;
-use crate::given_build::kept_given;
+use crate::given::{GivenBoard, kept_given};
 use crate::held::Held;
 use crate::naming::Naming;
 use crate::place::Place;
@@ -23,7 +24,7 @@ pub extern "C" fn psci_open(alloc: Global, place: &mut Place, text: &[u8]) -> u3
     ensures { Opens (opened_said result) (board_of text.now) place.old.slot.kept
         place.new.slot.kept }
 {
-    opened_code(open(alloc, place, text))
+    opened_code(open(alloc, place, read(alloc, text)))
 }
 
 /// The same, of the board that the struct gives: 0. Else the number of the struct's first fault, as
@@ -36,7 +37,7 @@ pub extern "C" fn psci_open_board(alloc: Global, place: &mut Place, board: &Give
     ensures { Opens (opened_said result) (board_of_given board.now) place.old.slot.kept
         place.new.slot.kept }
 {
-    opened_code(open_board(alloc, place, board))
+    opened_code(open(alloc, place, kept_given(alloc, board)))
 }
 
 /// Frees the firmware in the place, which is empty then.
@@ -47,20 +48,17 @@ pub extern "C" fn psci_close(alloc: Global, place: &mut Place)
     empty(alloc, place);
 }
 
-/// Puts a new firmware into the place, if the text is a board's and there is memory.
-fn open(alloc: Global, place: &mut Place, text: &[u8]) -> Result<(), BoardFault>
-    ensures { Opens result (board_of text.now) place.old.slot.kept place.new.slot.kept }
+/// Puts a new firmware into the place, if there is a board and memory.
+fn open(
+    alloc: Global,
+    place: &mut Place,
+    board: Result<Box<Board>, BoardFault>,
+) -> Result<(), BoardFault>
+    ensures { (said : Result BoardValue BoardFault) → IfOk board (λ b. said ≡ Ok b.value)
+        → IfErr board (λ fault. Answers (Err fault) said)
+        → Opens result said place.old.slot.kept place.new.slot.kept }
 {
-    let board = read(alloc, text)?;
-    Ok(renew(alloc, place, Naming::Board(board))?)
-}
-
-/// The same, if the struct is a board's.
-fn open_board(alloc: Global, place: &mut Place, given: &GivenBoard) -> Result<(), BoardFault>
-    ensures { Opens result (board_of_given given.now) place.old.slot.kept place.new.slot.kept }
-{
-    let board = kept_given(alloc, given)?;
-    Ok(renew(alloc, place, Naming::Board(board))?)
+    Ok(renew(alloc, place, Naming::Board(board?))?)
 }
 
 /// The board of a text. It has a frame of its own, which is gone from the stack when the firmware
@@ -105,18 +103,9 @@ fn boxed(alloc: Global, held: Held) -> Result<Box<Held>, Memory>
 fn empty(alloc: Global, place: &mut Place)
     ensures { place.new.slot.kept ≡ None }
 {
-    if let Some(held) = taken(alloc, place) {
+    if let Some(held) = place.take(alloc) {
         drop(Held::unboxed(held));
     }
-}
-
-/// The firmware of the place, which is empty then. It has a frame of its own.
-#[inline(never)]
-fn taken(alloc: Global, place: &mut Place) -> Option<Box<Held>>
-    ensures held { place.old.slot.kept ≡ option_map (λ b. b.value) result }
-    ensures left { place.new.slot.kept ≡ None }
-{
-    place.take(alloc)
 }
 
 /// A board in memory of its own, so that it is moved as a pointer.

@@ -3,9 +3,8 @@
 ghost use Rattle.std.specs.Prelude.{◌≡◌, true};
 ghost use Rattle.psci_enter.specs.Side.{at, fresh, heard, may_look};
 ghost use Rattle.psci_enter.specs.declared.post.Post.TheVariants as posts;
-ghost use Rattle.psci_ffi.specs.PortShown.{door_given, side_given, side_shown};
-ghost use Rattle.psci_ffi.specs.PortTurns.{is_armed, is_leaving, is_waiting, is_woken, look_left};
-ghost use Rattle.psci_ffi.specs.PortTurns.{look_number, look_said, turn_left, turn_said};
+ghost use Rattle.psci_ffi.specs.PortShown.{door_given, is_at, look_left, look_number, look_said};
+ghost use Rattle.psci_ffi.specs.PortShown.{side_given, side_shown, turn_left, turn_said};
 
 use crate::codes::NO_CAUSE;
 use crate::port_core::{
@@ -13,6 +12,21 @@ use crate::port_core::{
 };
 use psci_board::Core;
 use psci_enter::{FirmwareSide, Look, Post};
+
+/// A turn of the monitor that C holds, where its core is at this post.
+macro_rules! turned {
+    ($core:ident, $post:pat, $turn:ident($($with:expr)?)) => {{
+        let Some(mut side) = side_given($core) else {
+            return NO_SIDE;
+        };
+        if !matches!(side.post, $post) {
+            return OUT_OF_ORDER;
+        }
+        side.$turn($($with)?);
+        *$core = side_shown(side);
+        0
+    }};
+}
 
 /// Writes what the monitor of a core keeps in a new life.
 #[unsafe(no_mangle)]
@@ -48,103 +62,55 @@ pub extern "C" fn psci_port_look(core: &mut PortCore, door: &PortDoor, pending: 
 /// 16 on nothing changed, as of all calls below: 48 and 49 as of `psci_port_call`.
 #[unsafe(no_mangle)]
 pub extern "C" fn psci_port_stands(core: &mut PortCore) -> u32
-    ensures said { result ≡ turn_said is_leaving (side_given core.old) }
-    ensures side { core.new ≡ turn_left is_leaving (at posts.Waiting) core.old }
+    ensures said { result ≡ turn_said (is_at posts.Leaving) (side_given core.old) }
+    ensures side { core.new ≡ turn_left (is_at posts.Leaving) (at posts.Waiting) core.old }
 {
-    let Some(mut side) = side_given(core) else {
-        return NO_SIDE;
-    };
-    if !matches!(side.post, Post::Leaving) {
-        return OUT_OF_ORDER;
-    }
-    let _word = side.stands();
-    *core = side_shown(side);
-    0
+    turned!(core, Post::Leaving, stands())
 }
 
 /// The same with the lock in hand, where the power controller is in the monitors.
 #[unsafe(no_mangle)]
 pub extern "C" fn psci_port_arms(core: &mut PortCore) -> u32
-    ensures said { result ≡ turn_said is_leaving (side_given core.old) }
-    ensures side { core.new ≡ turn_left is_leaving (at posts.Armed) core.old }
+    ensures said { result ≡ turn_said (is_at posts.Leaving) (side_given core.old) }
+    ensures side { core.new ≡ turn_left (is_at posts.Leaving) (at posts.Armed) core.old }
 {
-    let Some(mut side) = side_given(core) else {
-        return NO_SIDE;
-    };
-    if !matches!(side.post, Post::Leaving) {
-        return OUT_OF_ORDER;
-    }
-    let _word = side.arms();
-    *core = side_shown(side);
-    0
+    turned!(core, Post::Leaving, arms())
 }
 
 /// An armed core comes to its WFI.
 #[unsafe(no_mangle)]
 pub extern "C" fn psci_port_sleeps(core: &mut PortCore) -> u32
-    ensures said { result ≡ turn_said is_armed (side_given core.old) }
-    ensures side { core.new ≡ turn_left is_armed (at posts.Waiting) core.old }
+    ensures said { result ≡ turn_said (is_at posts.Armed) (side_given core.old) }
+    ensures side { core.new ≡ turn_left (is_at posts.Armed) (at posts.Waiting) core.old }
 {
-    let Some(mut side) = side_given(core) else {
-        return NO_SIDE;
-    };
-    if !matches!(side.post, Post::Armed) {
-        return OUT_OF_ORDER;
-    }
-    side.sleeps();
-    *core = side_shown(side);
-    0
+    turned!(core, Post::Armed, sleeps())
 }
 
 /// An interrupt has ended the WFI of a core that was armed before it.
 #[unsafe(no_mangle)]
 pub extern "C" fn psci_port_rouses(core: &mut PortCore) -> u32
-    ensures said { result ≡ turn_said is_waiting (side_given core.old) }
-    ensures side { core.new ≡ turn_left is_waiting (at posts.Armed) core.old }
+    ensures said { result ≡ turn_said (is_at posts.Waiting) (side_given core.old) }
+    ensures side { core.new ≡ turn_left (is_at posts.Waiting) (at posts.Armed) core.old }
 {
-    let Some(mut side) = side_given(core) else {
-        return NO_SIDE;
-    };
-    if !matches!(side.post, Post::Waiting) {
-        return OUT_OF_ORDER;
-    }
-    side.rouses();
-    *core = side_shown(side);
-    0
+    turned!(core, Post::Waiting, rouses())
 }
 
 /// An armed core has told its own wake-up, with the lock in hand; it was started, or not.
 #[unsafe(no_mangle)]
 pub extern "C" fn psci_port_rises(core: &mut PortCore, started: bool) -> u32
-    ensures said { result ≡ turn_said is_armed (side_given core.old) }
-    ensures side { core.new ≡ turn_left is_armed (at (heard started)) core.old }
+    ensures said { result ≡ turn_said (is_at posts.Armed) (side_given core.old) }
+    ensures side { core.new ≡ turn_left (is_at posts.Armed) (at (heard started)) core.old }
 {
-    let Some(mut side) = side_given(core) else {
-        return NO_SIDE;
-    };
-    if !matches!(side.post, Post::Armed) {
-        return OUT_OF_ORDER;
-    }
-    side.rises(started);
-    *core = side_shown(side);
-    0
+    turned!(core, Post::Armed, rises(started))
 }
 
 /// A core that woke itself has given the lock back, and goes to its door.
 #[unsafe(no_mangle)]
 pub extern "C" fn psci_port_turns(core: &mut PortCore) -> u32
-    ensures said { result ≡ turn_said is_woken (side_given core.old) }
-    ensures side { core.new ≡ turn_left is_woken (at posts.Waiting) core.old }
+    ensures said { result ≡ turn_said (is_at posts.Woken) (side_given core.old) }
+    ensures side { core.new ≡ turn_left (is_at posts.Woken) (at posts.Waiting) core.old }
 {
-    let Some(mut side) = side_given(core) else {
-        return NO_SIDE;
-    };
-    if !matches!(side.post, Post::Woken) {
-        return OUT_OF_ORDER;
-    }
-    side.turns();
-    *core = side_shown(side);
-    0
+    turned!(core, Post::Woken, turns())
 }
 
 /// The core comes out of a reset of its own, and goes to its door.
@@ -153,12 +119,7 @@ pub extern "C" fn psci_port_comes_back(core: &mut PortCore) -> u32
     ensures said { result ≡ turn_said (λ post. true) (side_given core.old) }
     ensures side { core.new ≡ turn_left (λ post. true) (at posts.Waiting) core.old }
 {
-    let Some(mut side) = side_given(core) else {
-        return NO_SIDE;
-    };
-    side.comes_back();
-    *core = side_shown(side);
-    0
+    turned!(core, _, comes_back())
 }
 
 /// Whether a core looks at its door.

@@ -3,15 +3,14 @@
 ghost use Rattle.std.specs.Prelude.{◌≡◌};
 ghost use Rattle.psci_record.specs.Texts.{begins_text, call_text, enter_text, leaves_text};
 ghost use Rattle.psci_record.specs.Texts.{poll_text, stands_text};
-ghost use Rattle.psci_ffi.specs.Records.{Tells, answer_of, core_given, frame_given};
-ghost use Rattle.psci_ffi.specs.Records.{outcome_given, polled_given, started_given};
+ghost use Rattle.psci_ffi.specs.Records.{Tells, answer_of, core_given, frame_given, outcome_given};
+ghost use Rattle.psci_ffi.specs.Records.{polled_given, started_given};
 ghost use Rattle.psci_ffi.specs.Shown.{regs_given};
 
-use crate::answer::{Answer, SomeFrame};
-use crate::asked::nothing_asked;
+use crate::answer::{Answer, SomeFrame, nothing_asked};
 use crate::codes::NO_FIRMWARE;
-use crate::controller_answer::ControllerStart;
-use crate::port_orders::PortOrders;
+use crate::controller_calls::ControllerStart;
+use crate::port_core::PortOrders;
 use crate::record_line::{RecordCore, RecordLine, core_given};
 use psci_abi::low;
 use psci_fw::Regs;

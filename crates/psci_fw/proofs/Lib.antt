@@ -1,11 +1,7 @@
 mod Answered
-mod Called
-mod Fresh
-mod LifeRows
-mod Lives
-mod Opened
 mod Refused
+mod LifeRows
+mod Opened
 mod ReactionRows
 mod SavedRows
 mod SeenRows
-mod Stopping

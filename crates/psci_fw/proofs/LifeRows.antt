@@ -1,23 +1,23 @@
 -- Worked examples of a firmware in its last life: a board of one core, which started once and has
 -- turned the system off.
-use Rattle.std.proofs.Common.{◌≡◌, ◌≤◌, ◌<◌, ◌+◌, ℕ, zero, suc, [], ◌∷◌, true, false, None, refl}
-use Rattle.std.proofs.Common.{arith, rules, List, length, drop, get_or, slice_index, slice_index_or}
+use Rattle.std.proofs.Common.{◌+◌, ◌<◌, ◌∷◌, ◌≡◌, ◌≤◌, [], arith, drop, false, get_or, length}
+use Rattle.std.proofs.Common.{List, None, refl, rules, slice_index, slice_index_or, suc, true}
+use Rattle.std.proofs.Common.{zero, ℕ}
 use Rattle.std.proofs.lemmas.List.Sums.{AllPass-from_list_all}
 use Rattle.psci_board.specs.Board.{BoardValue, IsBoard, size_below, up}
-use Rattle.psci_board.specs.psci_abi.declared.format.Format.TheVariants.{Original}
+use Rattle.psci_board.specs.psci_abi.declared.registers.Format.TheVariants.{Original}
 use Rattle.psci_state.specs.Cores.{IsActivity, never_started}
 use Rattle.psci_state.specs.declared.cores.Activity.TheVariants.{Active}
 use Rattle.psci_state.specs.declared.cores.CoreState.{CoreState}
 use Rattle.psci_fw_spec.specs.declared.mode.SuspendMode.TheVariants.{OsInitiated}
 use Rattle.psci_fw_spec.specs.declared.status.Status.TheVariants.{On}
-use Rattle.psci_fw_spec.specs.Invariant.{AreValues, IsPhase, agrees}
+use Rattle.psci_fw_spec.specs.Invariant.{agrees, AreValues, ask, IsPhase}
 use Rattle.psci_fw_spec.specs.Values.{Values}
-use Rattle.psci_fw_spec.specs.Views.{ask}
 use Rattle.psci_fw_state.specs.declared.counts.StatusCounts.{StatusCounts}
 use Rattle.psci_fw_state.specs.Counts.{counts_at, counts_below, level_counts}
 use Rattle.psci_fw_state.specs.Rows.{status_at}
 use Rattle.psci_fw_state.specs.Seen.{IsState, values_in}
-use Rattle.psci_fw.specs.Seen.{FirmwareValue, IsFirmware}
+use Rattle.psci_fw.specs.Reactions.{FirmwareValue, IsFirmware}
 
 abbrev pub board : BoardValue
 board = record {

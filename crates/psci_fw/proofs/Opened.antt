@@ -1,11 +1,11 @@
 -- A firmware that was saved is opened again, and of other words none is.
-use Rattle.std.proofs.Common.{◌≡◌, ◌≤◌, ◌∙◌, ◌==◌, ◌++◌, ℕ, Bool, true, false, List, zero, suc}
-use Rattle.std.proofs.Common.{length, nat_lt, not, None, refl, sym, arith}
+use Rattle.std.proofs.Common.{◌++◌, ◌==◌, ◌∙◌, ◌≡◌, ◌≤◌, arith, Bool, false, length, List}
+use Rattle.std.proofs.Common.{nat_lt, None, not, refl, suc, sym, true, zero, ℕ}
 use Rattle.std.proofs.lemmas.Option.{none-some}
 use Rattle.psci_board.specs.Board.{BoardValue}
 use Rattle.psci_messages.specs.Sum.{sum_from}
 use Rattle.psci_fw_spec.specs.Invariant.{AreValues}
-use Rattle.psci_fw_spec.specs.Lives.{start_of_life}
+use Rattle.psci_fw_spec.specs.Changes.{start_of_life}
 use Rattle.psci_fw_state.specs.declared.fault.SavedFault.TheVariants.{Format, Length, Life, Sum}
 use Rattle.psci_fw_state.specs.declared.saved_parts.TheConstants.{FORMAT}
 use Rattle.psci_fw_state.specs.Saved.{IsSavable, life_words, part_count, part_words, saved}
@@ -14,8 +14,8 @@ use Rattle.psci_fw_state.specs.Seen.{IsState, StateValue, values_in}
 use Rattle.psci_fw.specs.declared.fault.OpenFault.{OpenFault}
 use Rattle.psci_fw.specs.declared.fault.OpenFault.TheVariants.{Memory, Words, Values}
 use Rattle.psci_fw.specs.Saved.{IsRefused}
-use Rattle.psci_fw.specs.Seen.{FirmwareValue, IsFirmware}
-use Rattle.psci_fw.proofs.Lives.{not_beyond}
+use Rattle.psci_fw.specs.Reactions.{FirmwareValue, IsFirmware}
+use Rattle.psci_fw.proofs.Answered.{not_beyond}
 use Rattle.psci_fw.proofs.Refused.{passed}
 
 -- Saved -----------------------------------------------------------------------------------------

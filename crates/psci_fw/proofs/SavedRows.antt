@@ -1,8 +1,8 @@
 -- Worked examples of words from which a firmware is opened, and of why none is: a board of one
 -- core, which has turned the system off in life 3.
-use Rattle.std.proofs.Common.{◌≡◌, ◌∙◌, ℕ, ◌^◌, ◌≤◌, false, List, [], ◌∷◌, ◌++◌, replicate, length}
-use Rattle.std.proofs.Common.{◌<◌, zero, suc, flat_map, get_or, Some, None, Option, refl, sym, ap}
-use Rattle.std.proofs.Common.{arith}
+use Rattle.std.proofs.Common.{◌++◌, ◌<◌, ◌^◌, ◌∙◌, ◌∷◌, ◌≡◌, ◌≤◌, [], ap, arith, false, flat_map}
+use Rattle.std.proofs.Common.{get_or, length, List, None, Option, refl, replicate, Some, suc}
+use Rattle.std.proofs.Common.{sym, zero, ℕ}
 use Rattle.std.proofs.lemmas.Option.{none-some}
 use Rattle.psci_board.specs.Board.{BoardValue}
 use Rattle.psci_messages.specs.declared.kind.Kind.TheVariants as kinds
@@ -17,7 +17,7 @@ use Rattle.psci_fw_state.specs.Saved.{IsSavable, flag, saved, saved_fault}
 use Rattle.psci_fw_state.specs.Seen.{IsState, values_in}
 use Rattle.psci_fw.specs.declared.fault.OpenFault.TheVariants.{Memory, Words, Values}
 use Rattle.psci_fw.specs.Saved.{IsOpened, IsRefused}
-use Rattle.psci_fw.specs.Seen.{FirmwareValue, IsFirmware}
+use Rattle.psci_fw.specs.Reactions.{FirmwareValue, IsFirmware}
 use Rattle.psci_fw.proofs.LifeRows.{board, firmware, is_state, last_life, life_beyond_the_board}
 use Rattle.psci_fw.proofs.LifeRows.{running}
 

@@ -4,14 +4,12 @@ use Rattle.std.proofs.Common.{◌≡◌, ℕ, ◌<◌, ◌≤◌, [], ◌∷◌,
 use Rattle.psci_state.specs.declared.cores.Activity.TheVariants as activities
 use Rattle.psci_fw_spec.specs.declared.mode.SuspendMode.TheVariants.{OsInitiated, Platform}
 use Rattle.psci_fw_spec.specs.declared.status.Status.TheVariants as statuses
-use Rattle.psci_fw_spec.specs.Lives.{start_of_life}
+use Rattle.psci_fw_spec.specs.Changes.{start_of_life}
 use Rattle.psci_fw_spec.specs.Phases as phases
 use Rattle.psci_fw_spec.specs.Values.{Values}
 use Rattle.psci_messages.specs.declared.kind.Kind.TheVariants as kinds
 use Rattle.psci_fw_state.specs.Seen.{values_in}
-use Rattle.psci_fw.specs.Calls.{MayCall}
-use Rattle.psci_fw.specs.Halts.{IsOfSystem}
-use Rattle.psci_fw.specs.Seen.{FirmwareValue, IsFirmware, IsFresh}
+use Rattle.psci_fw.specs.Reactions.{FirmwareValue, IsFirmware, IsFresh, IsOfSystem, MayCall}
 use Rattle.psci_fw_state.proofs.KeptRows.{board}
 
 -- in this life core 0 runs, core 1 is asked on, and the second cluster is in standby

@@ -1,9 +1,5 @@
-pub mod Calls
-pub mod Halts
 pub mod Reactions
 pub mod Saved
-pub mod Seen
-pub mod Suspending
 pub mod Ways
 pub use Rattle.psci_abi.specs as psci_abi
 pub use Rattle.psci_board.specs as psci_board

@@ -5,7 +5,7 @@ use Rattle.psci_fw_state.specs.Saved.{IsSavable, saved, saved_fault}
 use Rattle.psci_fw_state.specs.Seen.{IsState}
 use Rattle.psci_fw.specs.declared.fault.OpenFault.{OpenFault}
 use Rattle.psci_fw.specs.declared.fault.OpenFault.TheVariants.{Memory, Words, Values}
-use Rattle.psci_fw.specs.Seen.{FirmwareValue, IsFirmware}
+use Rattle.psci_fw.specs.Reactions.{FirmwareValue, IsFirmware}
 
 -- A firmware was opened from these words: it is of this board, and is saved as the same words.
 pub record IsOpened (b : BoardValue) (ws : List ℕ) (f : FirmwareValue) : Type 0 where

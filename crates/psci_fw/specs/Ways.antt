@@ -4,7 +4,7 @@ use Rattle.psci_fw_spec.specs.declared.opening.Opening.{Opening}
 use Rattle.psci_fw_spec.specs.declared.outcome.Act.{Act}
 use Rattle.psci_fw_spec.specs.declared.outcome.Act.TheVariants as acts
 use Rattle.psci_messages.specs.declared.start.Start.{Start}
-use Rattle.psci_fw_spec.specs.Entering.{resumes}
+use Rattle.psci_fw_spec.specs.Answer.{resumes}
 use Rattle.psci_fw_spec.specs.Values.{Values}
 
 -- at its opening, or after its suspend where it has none

@@ -1,7 +1,7 @@
 //! AFFINITY_INFO.
 
 ghost use Rattle.std.specs.Prelude.{◌≡◌};
-ghost use Rattle.psci_fw_spec.specs.AffinityInfo.{affinity_info};
+ghost use Rattle.psci_fw_spec.specs.PowerCalls.{affinity_info};
 ghost use Rattle.psci_fw_state.specs.Seen.{values_in};
 
 use psci_abi::Code;

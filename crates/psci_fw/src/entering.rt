@@ -2,20 +2,18 @@
 
 ghost use Rattle.std.specs.Prelude.{◌≡◌, ◌<◌, MatchResult, None, Some};
 ghost use Rattle.psci_board.specs.Board.{cores};
-ghost use Rattle.psci_fw_spec.specs.After.{change};
-ghost use Rattle.psci_fw_spec.specs.Effects.{enter_effect};
-ghost use Rattle.psci_fw_spec.specs.Entering.{enter_fault, enter_outcome, is_old, resumes};
-ghost use Rattle.psci_fw_spec.specs.Lives.{in_life};
+ghost use Rattle.psci_fw_spec.specs.Effects.{change, enter_effect};
+ghost use Rattle.psci_fw_spec.specs.Answer.{enter_fault, enter_outcome, is_old, resumes};
+ghost use Rattle.psci_fw_spec.specs.Changes.{in_life};
 ghost use Rattle.psci_fw_state.specs.Seen.{values_in};
-ghost use Rattle.psci_fw.specs.Reactions.{IsReaction, outcome_in};
-ghost use Rattle.psci_fw.specs.Seen.{IsFirmware, IsFresh};
+ghost use Rattle.psci_fw.specs.Reactions.{IsFirmware, IsFresh, IsReaction, outcome_in};
 ghost use Rattle.psci_fw.specs.Ways.{way_on};
 
 use crate::laws::{law_fresh, law_may_claim};
 use crate::off::send_down;
 use crate::reaction::Reaction;
 use psci_board::Core;
-use psci_fw_spec::{Act, Cause, FwFault, Opening, Start, law_stops};
+use psci_fw_spec::{Act, Cause, FwFault, Opening, Start};
 use psci_fw_state::State;
 
 /// Whether a core may enter by this start, or the first reason why it may not.
@@ -61,7 +59,6 @@ pub fn enter<A>(state: &mut State, core: Core, start: Start) -> Reaction
         outcome.act outcome.message) (values_in state.old) }
 {
     law_may_claim();
-    law_stops();
     begin(state, start.life);
     if state.halting() {
         state.arrive_away(core, start);

@@ -15,7 +15,7 @@ pub struct Firmware {
 }
 
 impl Model for Firmware {
-    ghost use Rattle.psci_fw.specs.Seen.{FirmwareValue, IsFirmware};
+    ghost use Rattle.psci_fw.specs.Reactions.{FirmwareValue, IsFirmware};
 
     ghost Value = { FirmwareValue };
 
@@ -29,12 +29,12 @@ ghost use Rattle.psci_board.specs.Board.{cores};
 ghost use Rattle.psci_messages.specs.declared.taken.Taken.TheVariants.{Old};
 ghost use Rattle.psci_fw_spec.specs.declared.call.FwCall.TheVariants as calls;
 ghost use Rattle.psci_fw_spec.specs.declared.reply.FwReply.TheVariants as replies;
-ghost use Rattle.psci_fw_spec.specs.After.{after};
+ghost use Rattle.psci_fw_spec.specs.Effects.{after};
 ghost use Rattle.psci_fw_spec.specs.Answer.{answer, reply_of};
-ghost use Rattle.psci_fw_spec.specs.Lives.{start_of_life};
+ghost use Rattle.psci_fw_spec.specs.Changes.{start_of_life};
 ghost use Rattle.psci_fw_spec.specs.Phases.{is_running};
-ghost use Rattle.psci_fw.specs.Reactions.{IsInItsSlot, outcome_in, reply_in};
-ghost use Rattle.psci_fw.specs.Seen.{hw_shown, life_shown, seen, status_shown};
+ghost use Rattle.psci_fw.specs.Reactions.{hw_shown, IsInItsSlot, life_shown, outcome_in, reply_in};
+ghost use Rattle.psci_fw.specs.Reactions.{seen, status_shown};
 ghost use Rattle.psci_fw_state.specs.Seen.{message_shown};
 
 use crate::entering::{check_start, enter};
@@ -77,7 +77,7 @@ impl Firmware {
     /// The same call, whose message stays in its slot. It is compiled once for each `A`: so a
     /// caller with an `A` of its own has it compiled in place, and reads what came of it where it
     /// is found.
-    #[tactic(auto, unfolding(psci_fw_spec::specs::After::after))]
+    #[tactic(auto, unfolding(psci_fw_spec::specs::Effects::after))]
     pub fn smc_in_slot<A>(&mut self, core: Core, regs: Regs) -> Result<Reaction, FwFault>
         ensures answer { reply_in self.new.board (seen self.new) result
             ≡ answer self.old.board (seen self.old) core.number (calls.Smc regs) }
@@ -117,7 +117,7 @@ impl Firmware {
 
     /// The same entry, whose message stays in its slot. It is compiled once for each `A`, as a call
     /// is.
-    #[tactic(auto, unfolding(psci_fw_spec::specs::After::after))]
+    #[tactic(auto, unfolding(psci_fw_spec::specs::Effects::after))]
     pub fn enter_in_slot<A>(&mut self, core: Core, start: Start) -> Result<Reaction, FwFault>
         ensures answer { reply_in self.new.board (seen self.new) result
             ≡ answer self.old.board (seen self.old) core.number (calls.Enter start) }
@@ -152,7 +152,7 @@ impl Firmware {
     /// else old, and nothing changes. Compiled into its callers, so that no acknowledgement is
     /// written to memory.
     #[inline(always)]
-    #[tactic(auto, unfolding(psci_fw_spec::specs::After::after))]
+    #[tactic(auto, unfolding(psci_fw_spec::specs::Effects::after))]
     pub fn take(&mut self, ack: Ack) -> Taken
         ensures answer { (c : ℕ) → replies.Taken result
             ≡ answer self.old.board (seen self.old) c (calls.Take ack) }

@@ -4,31 +4,27 @@
 ghost use Rattle.std.specs.Prelude.{◌≡◌, ◌<◌, ◌≤◌, ◌&&◌, ℕ, List, None, Ok, false, not, true};
 ghost use Rattle.psci_board.specs.Board.{BoardValue, IsBoard, cores, height, may_enter};
 ghost use Rattle.psci_messages.specs.declared.part.Part.{Part};
-ghost use Rattle.psci_state.specs.Ask.{deepest_of, is_deep};
+ghost use Rattle.psci_state.specs.PowerState.{deepest_of, is_deep};
 ghost use Rattle.psci_messages.specs.declared.start.Start.{Start};
 ghost use Rattle.psci_abi.specs.Calls.{request_of};
 ghost use Rattle.psci_abi.specs.declared.registers.Regs.{Regs};
 ghost use Rattle.psci_messages.specs.declared.taken.Taken.TheVariants.{Used};
 ghost use Rattle.psci_messages.specs.Message.{AckValue};
 ghost use Rattle.psci_fw_spec.specs.declared.outcome.Outcome.{Outcome};
-ghost use Rattle.psci_fw_spec.specs.After.{change};
-ghost use Rattle.psci_fw_spec.specs.Calls.{call_fault};
-ghost use Rattle.psci_fw_spec.specs.Changes.{with_acknowledgement, with_arrival};
-ghost use Rattle.psci_fw_spec.specs.Claims.{off_parts, suspend_parts};
-ghost use Rattle.psci_fw_spec.specs.CpuSuspend.{ask_named};
-ghost use Rattle.psci_fw_spec.specs.Effects.{enter_effect, function_effect};
-ghost use Rattle.psci_fw_spec.specs.Entering.{enter_fault, resumes};
+ghost use Rattle.psci_fw_spec.specs.Effects.{change, enter_effect, function_effect};
+ghost use Rattle.psci_fw_spec.specs.Answer.{call_fault, enter_fault, resumes};
+ghost use Rattle.psci_fw_spec.specs.Changes.{in_life, start_of_life, with_acknowledgement};
+ghost use Rattle.psci_fw_spec.specs.Changes.{with_arrival};
+ghost use Rattle.psci_fw_spec.specs.PowerCalls.{all_others, ask_named, is_off_status, off_parts};
+ghost use Rattle.psci_fw_spec.specs.PowerCalls.{suspend_parts};
 ghost use Rattle.psci_fw_spec.specs.Invariant.{AreValues};
-ghost use Rattle.psci_fw_spec.specs.Lives.{in_life, start_of_life};
 ghost use Rattle.psci_fw_spec.specs.Phases.{Running};
-ghost use Rattle.psci_fw_spec.specs.SystemCalls.{all_others, is_off_status};
-ghost use Rattle.psci_fw_spec.specs.Taking.{taken_by};
-ghost use Rattle.psci_fw_spec.specs.Values.{Values};
-ghost use Rattle.psci_fw.specs.Seen.{IsFresh};
+ghost use Rattle.psci_fw_spec.specs.Values.{taken_by, Values};
+ghost use Rattle.psci_fw.specs.Reactions.{IsFresh};
 ghost use Rattle.psci_fw_state.specs.Claims.{MayClaim};
 
 use psci_board::law_paths;
-use psci_fw_spec::{law_caller, law_enters, law_invariant};
+use psci_fw_spec::law_invariant;
 use psci_messages::{law_claims, law_last_core};
 
 /// The claims of cores that stop may be granted.
@@ -78,10 +74,7 @@ pub fn law_fresh()
     // A core has entered before each acknowledgement that is used, since one has sent its message.
     ensures take { (b : BoardValue) (v : Values) (a : AckValue) → IsFresh b v
         → taken_by v a ≡ Used → IsFresh b (with_acknowledgement b a v) }
-{
-    law_caller();
-    law_enters();
-}
+{}
 
 /// The life of a firmware is none beyond the last one of its board.
 pub fn law_lives()
@@ -97,7 +90,4 @@ pub fn law_lives()
     // An acknowledgement changes no life.
     ensures take { (b : BoardValue) (v : Values) (a : AckValue) → v.life ≤ b.lives
         → (with_acknowledgement b a v).life ≤ b.lives }
-{
-    law_caller();
-    law_enters();
-}
+{}

@@ -28,7 +28,7 @@ pub use psci_abi::{Code, Regs};
 pub use psci_board::law_sizes;
 pub use psci_fw_spec::{
     Act, Cause, FwCall, FwFault, FwReply, Hw, Opening, Outcome, Start, Status, SuspendMode,
-    law_caller, law_first_start, law_power_on, law_values,
+    law_power_on, law_values,
 };
 pub use psci_fw_state::SavedFault;
 pub use psci_messages::Taken;

@@ -2,9 +2,8 @@
 
 ghost use Rattle.std.specs.Prelude.{◌≡◌};
 ghost use Rattle.psci_abi.specs.declared.request.Request.TheVariants.{SetSuspendMode};
-ghost use Rattle.psci_fw_spec.specs.SuspendMode.{may_set, mode_of};
-ghost use Rattle.psci_fw.specs.Calls.{FunctionAnswered, MayCall};
-ghost use Rattle.psci_fw.specs.Reactions.{IsReaction, outcome_in};
+ghost use Rattle.psci_fw_spec.specs.PowerCalls.{may_set, mode_of};
+ghost use Rattle.psci_fw.specs.Reactions.{FunctionAnswered, IsReaction, MayCall, outcome_in};
 ghost use Rattle.psci_fw_state.specs.Seen.{values_in};
 
 use crate::reaction::Reaction;

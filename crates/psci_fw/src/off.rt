@@ -4,17 +4,15 @@ ghost use Rattle.std.specs.Prelude.{◌≡◌};
 ghost use Rattle.psci_abi.specs.declared.request.Request.TheVariants.{CpuOff};
 ghost use Rattle.psci_messages.specs.declared.kind.Kind.TheVariants as kinds;
 ghost use Rattle.psci_fw_spec.specs.Changes.{with_claims};
-ghost use Rattle.psci_fw_spec.specs.Outcomes.{message_for, stops_with};
+ghost use Rattle.psci_fw_spec.specs.PowerCalls.{message_for, stops_with};
 ghost use Rattle.psci_fw_state.specs.Claims.{IsGrantable};
 ghost use Rattle.psci_fw_state.specs.Wishes.{wished_in};
-ghost use Rattle.psci_fw.specs.Calls.{FunctionAnswered, MayCall};
-ghost use Rattle.psci_fw.specs.Reactions.{IsReaction, outcome_in};
+ghost use Rattle.psci_fw.specs.Reactions.{FunctionAnswered, IsReaction, MayCall, outcome_in};
 ghost use Rattle.psci_fw_state.specs.Seen.{values_in};
 
 use crate::laws::law_may_claim;
 use crate::reaction::Reaction;
 use psci_board::Core;
-use psci_fw_spec::law_stops;
 use psci_fw_state::{State, Wish};
 
 /// CPU_OFF (DEN0022D): the caller stops, and goes off.
@@ -24,7 +22,6 @@ pub fn cpu_off(state: &mut State, caller: Core) -> Reaction
         (outcome_in state.new.board (values_in state.new) result) (values_in state.new) }
     ensures reaction { IsReaction state.old state.new result }
 {
-    law_stops();
     law_may_claim();
     state.leave(caller);
     let wish = state.leaving_wish(caller);

@@ -3,9 +3,8 @@
 ghost use Rattle.std.specs.Prelude.{◌≡◌, ◌<◌, IfOk};
 ghost use Rattle.psci_abi.specs.declared.request.Request.TheVariants.{CpuOn};
 ghost use Rattle.psci_board.specs.Board.{cores};
-ghost use Rattle.psci_fw_spec.specs.CpuOn.{target_of};
-ghost use Rattle.psci_fw.specs.Calls.{FunctionAnswered, MayCall};
-ghost use Rattle.psci_fw.specs.Reactions.{IsReaction, outcome_in};
+ghost use Rattle.psci_fw_spec.specs.PowerCalls.{target_of};
+ghost use Rattle.psci_fw.specs.Reactions.{FunctionAnswered, IsReaction, MayCall, outcome_in};
 ghost use Rattle.psci_fw_state.specs.Seen.{values_in};
 
 use crate::reaction::Reaction;
@@ -39,7 +38,7 @@ pub fn cpu_on<A>(state: &mut State, caller: Core, target: u64, opening: Opening)
 
 /// The core that a CPU_ON starts, or the code of the first check that fails.
 #[inline(always)]
-#[tactic(auto, unfolding(psci_fw_spec::specs::CpuOn::target_of))]
+#[tactic(auto, unfolding(psci_fw_spec::specs::PowerCalls::target_of))]
 fn check_target(state: &State, target: u64, entry_point: u64) -> Result<Core, Code>
     ensures target { result ≡ target_of state.now.board (values_in state.now) target entry_point }
     ensures inside { IfOk result (λ core. core.number < cores state.now.board) }

@@ -5,7 +5,7 @@ ghost use Rattle.psci_fw_state.specs.Saved.{IsSavable, part_count, saved, saved_
 ghost use Rattle.psci_fw_state.specs.Seen.{IsState};
 ghost use Rattle.psci_fw.specs.declared.fault.OpenFault.TheVariants.{Memory};
 ghost use Rattle.psci_fw.specs.Saved.{IsOpened, IsRefused};
-ghost use Rattle.psci_fw.specs.Seen.{FirmwareValue, IsFirmware};
+ghost use Rattle.psci_fw.specs.Reactions.{FirmwareValue, IsFirmware};
 
 use crate::fault::OpenFault;
 use crate::firmware::Firmware;

@@ -2,11 +2,10 @@
 
 ghost use Rattle.std.specs.Prelude.{◌≡◌};
 ghost use Rattle.psci_abi.specs.Calls.{features_of, request_of};
-ghost use Rattle.psci_fw_spec.specs.After.{change};
-ghost use Rattle.psci_fw_spec.specs.Calls.{outcome_of};
-ghost use Rattle.psci_fw_spec.specs.Effects.{function_effect};
-ghost use Rattle.psci_fw.specs.Calls.{FunctionAnswered, IsCaller, MayCall};
-ghost use Rattle.psci_fw.specs.Reactions.{IsReaction, outcome_in};
+ghost use Rattle.psci_fw_spec.specs.Effects.{change, function_effect};
+ghost use Rattle.psci_fw_spec.specs.Answer.{outcome_of};
+ghost use Rattle.psci_fw.specs.Reactions.{FunctionAnswered, IsCaller, IsReaction, MayCall};
+ghost use Rattle.psci_fw.specs.Reactions.{outcome_in};
 ghost use Rattle.psci_fw_state.specs.Seen.{values_in};
 
 use crate::affinity::affinity_info;
@@ -30,7 +29,7 @@ const NO_MIGRATION: Code = Code(2);
 
 /// What a running core is answered to its call: in a halting life it stops, whatever it asks. `A`
 /// is for the compiler, as it is below: this is compiled once for each.
-#[tactic(auto, unfolding(psci_fw_spec::specs::Calls::outcome_of))]
+#[tactic(auto, unfolding(psci_fw_spec::specs::Answer::outcome_of))]
 pub fn dispatch<A>(state: &mut State, caller: Core, regs: Regs) -> Reaction
     requires { IsCaller state.old caller.number }
     ensures answer { outcome_in state.new.board (values_in state.new) result

@@ -3,13 +3,11 @@
 ghost use Rattle.std.specs.Prelude.{◌≡◌, ◌&&◌, not};
 ghost use Rattle.psci_abi.specs.declared.request.Request.TheVariants.{CpuSuspend};
 ghost use Rattle.psci_board.specs.Board.{may_enter};
-ghost use Rattle.psci_state.specs.Ask.{is_deep};
-ghost use Rattle.psci_fw_spec.specs.Claims.{suspend_parts};
-ghost use Rattle.psci_fw_spec.specs.CpuSuspend.{osi_code, suspend_answer};
+ghost use Rattle.psci_state.specs.PowerState.{is_deep};
+ghost use Rattle.psci_fw_spec.specs.PowerCalls.{osi_code, suspend_answer, suspend_parts};
 ghost use Rattle.psci_fw_spec.specs.Effects.{suspends};
-ghost use Rattle.psci_fw.specs.Calls.{FunctionAnswered, MayCall};
-ghost use Rattle.psci_fw.specs.Suspending.{MaySuspend, Suspends};
-ghost use Rattle.psci_fw.specs.Reactions.{IsReaction, outcome_in};
+ghost use Rattle.psci_fw.specs.Reactions.{FunctionAnswered, IsReaction, MayCall, MaySuspend};
+ghost use Rattle.psci_fw.specs.Reactions.{outcome_in, Suspends};
 ghost use Rattle.psci_fw_state.specs.Seen.{values_in};
 
 use crate::laws::law_may_claim;
@@ -17,7 +15,7 @@ use crate::off::send_down;
 use crate::reaction::Reaction;
 use psci_abi::Code;
 use psci_board::{Board, Core};
-use psci_fw_spec::{Opening, law_stops};
+use psci_fw_spec::Opening;
 use psci_fw_state::State;
 use psci_messages::Osi;
 use psci_state::Ask;
@@ -68,7 +66,6 @@ pub fn sleep(state: &mut State, core: Core, ask: Ask, opening: Opening) -> React
         (values_in state.new) }
     ensures reaction { IsReaction state.old state.new result }
 {
-    law_stops();
     match state.suspend(core, ask, opening) {
         Ok(wish) => send_down(state, core, &wish),
         Err(reason) => Reaction::returns(osi_code(reason)),

@@ -4,12 +4,10 @@ ghost use Rattle.std.specs.Prelude.{◌≡◌, ℕ, [], ◌∷◌};
 ghost use Rattle.psci_abi.specs.declared.request.Request.TheVariants as requests;
 ghost use Rattle.psci_messages.specs.declared.kind.Kind.TheVariants as kinds;
 ghost use Rattle.psci_fw_spec.specs.Changes.{with_halt, with_phase};
-ghost use Rattle.psci_fw_spec.specs.Outcomes.{message_for, stops_with};
+ghost use Rattle.psci_fw_spec.specs.PowerCalls.{message_for, stops_with, system_message};
 ghost use Rattle.psci_fw_spec.specs.Phases.{Away};
-ghost use Rattle.psci_fw_spec.specs.SystemCalls.{system_message};
-ghost use Rattle.psci_fw.specs.Calls.{FunctionAnswered, MayCall};
-ghost use Rattle.psci_fw.specs.Halts.{IsOfSystem};
-ghost use Rattle.psci_fw.specs.Reactions.{IsReaction, outcome_in};
+ghost use Rattle.psci_fw.specs.Reactions.{FunctionAnswered, IsOfSystem, IsReaction, MayCall};
+ghost use Rattle.psci_fw.specs.Reactions.{outcome_in};
 ghost use Rattle.psci_fw_state.specs.Seen.{values_in};
 
 use crate::laws::law_may_claim;

@@ -1,7 +1,7 @@
 -- Worked examples: what is outstanding, who has entered, limits, messages, claims, what is granted
 -- or carried out, and what is in the way of a request; each clause with a state that breaks it.
-use Rattle.std.proofs.Common.{◌≡◌, ◌==◌, ◌+◌, ◌≤◌, ℕ, zero, suc, true, false, List, [], ◌∷◌, Option}
-use Rattle.std.proofs.Common.{None, Some, if◌then◌else◌, inl, inr, refl, ap, arith}
+use Rattle.std.proofs.Common.{◌+◌, ◌==◌, ◌∷◌, ◌≡◌, ◌≤◌, [], ap, arith, false, if◌then◌else◌, inl}
+use Rattle.std.proofs.Common.{inr, List, None, Option, refl, Some, suc, true, zero, ℕ}
 use Rattle.std.proofs.lemmas.Bool.{ne_eqb}
 use Rattle.psci_board.specs.Board.{BoardValue, up}
 use Rattle.psci_messages.specs.Message.{AckValue, MessageValue}
@@ -10,21 +10,17 @@ use Rattle.psci_messages.specs.View.{PowerView}
 use Rattle.psci_messages.specs.declared.kind.Kind.{Kind}
 use Rattle.psci_messages.specs.declared.kind.Kind.TheVariants.{Down, Off, Start}
 use Rattle.psci_messages.specs.declared.part.Part.{Part}
-use Rattle.psci_fw_spec.specs.Lives.{start_of_life}
+use Rattle.psci_fw_spec.specs.Changes.{start_of_life}
 use Rattle.psci_fw_spec.specs.Phases.{Away, Pending, Running, Suspended, Phase}
 use Rattle.psci_fw_spec.specs.Values.{Values}
 use Rattle.psci_fw_spec.specs.declared.status.Status.TheVariants.{On}
 use Rattle.psci_fw_laws.specs.Beside.{AreAwake, HasSleeper, IsInTheWay, NobodyAwake}
-use Rattle.psci_fw_laws.specs.CarriedOut.{IsCarriedOut}
-use Rattle.psci_fw_laws.specs.Claims.{AreRising, IsClaimOn, IsCurrent, IsFromStart, part_for}
-use Rattle.psci_fw_laws.specs.Entered.{AreEntered}
-use Rattle.psci_fw_laws.specs.Granted.{AreGranted, HasDeeper}
-use Rattle.psci_fw_laws.specs.KnownBelow.{known_below}
-use Rattle.psci_fw_laws.specs.Messages.{IsOfThisLife, IsSent, IsSound}
-use Rattle.psci_fw_laws.specs.Outstanding.{AreOutstanding, IsOfCore, IsOfLife}
-use Rattle.psci_fw_laws.specs.Within.{AreWithin}
+use Rattle.psci_fw_laws.specs.Messages.{AreEntered, AreGranted, AreOutstanding, AreRising}
+use Rattle.psci_fw_laws.specs.Messages.{AreWithin, HasDeeper, IsCarriedOut, IsClaimOn, IsCurrent}
+use Rattle.psci_fw_laws.specs.Messages.{IsFromStart, IsOfCore, IsOfLife, IsOfThisLife, IsSent}
+use Rattle.psci_fw_laws.specs.Messages.{IsSound, known_below, part_for}
 use Rattle.psci_abi.proofs.Tables.{◌⇒◌, Gives}
-use Rattle.psci_fw_laws.proofs.Calls.{board, message, part}
+use Rattle.psci_fw_laws.proofs.Claiming.{board, message, part}
 
 -- the Down of core 3 that has entered once, and went off with its cluster
 abbrev down_3 : MessageValue

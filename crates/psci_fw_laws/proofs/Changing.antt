@@ -1,21 +1,34 @@
 -- What happens to outstanding messages and to the values of renumbered cores.
-use Rattle.psci_fw_laws.proofs.Words.{nat_tests, ◌&&◌, ◌≡◌, Acknowledge, acknowledgement_by}
-use Rattle.psci_fw_laws.proofs.Words.{AckValue, answers, ap, arith, BoardValue, Bool, changed}
-use Rattle.psci_fw_laws.proofs.Words.{Clear, Core, core_by, false, if◌then◌else◌, Kind}
-use Rattle.psci_fw_laws.proofs.Words.{left_by, message_by, MessageValue, None, Option, option_map}
-use Rattle.psci_fw_laws.proofs.Words.{Put, Slot, slot_of, sym, taken, true, Values, values_by}
-use Rattle.psci_fw_laws.proofs.Words.{with_slots, ℕ, ◌∙◌, below, cleared, confirms_on, in_life}
-use Rattle.psci_fw_laws.proofs.Words.{is_made_at, is_path_place, nat_lt, Node, node_by, Part}
-use Rattle.psci_fw_laws.proofs.Words.{PowerOn, Rest, Start, sum_by, turns_off, updated}
-use Rattle.psci_fw_laws.proofs.Words.{with_acknowledgement, with_arrival, with_claims, with_halt}
-use Rattle.psci_fw_laws.proofs.Words.{with_pending, with_rest, with_running}
-use Rattle.psci_messages.specs.Slots.{Change, ClearAll}
-use Rattle.psci_fw_laws.specs.Renumbered.{slot_by}
-use Rattle.psci_fw_laws.proofs.Numberings.{other_test, Renumbers, node_back, sum-below}
 use Rattle.std.specs.Option.{option_or}
-use Rattle.psci_fw_spec.specs.Confirmed.{applied_part, confirms, unconfirmed}
-use Rattle.psci_fw_laws.proofs.StoppingBy.{updated-by, with_phase-by}
+use Rattle.psci_abi.specs.declared.request.Request.{Request}
+use Rattle.psci_abi.specs.declared.request.Request.TheVariants as requests
+use Rattle.psci_messages.specs.Slots.{Change, ClearAll}
+use Rattle.psci_messages.specs.declared.kind.Kind.TheVariants as kinds
+use Rattle.psci_fw_spec.specs.Answer.{answer, enter_outcome, outcome_of, without_opening}
+use Rattle.psci_fw_spec.specs.Changes.{applied_part, confirms, unconfirmed}
+use Rattle.psci_fw_spec.specs.declared.reply.FwReply.TheVariants as replies
 use Rattle.psci_fw_spec.specs.declared.status.Status.TheVariants as statuses
+use Rattle.psci_fw_laws.specs.Renumbered.{slot_by}
+use Rattle.psci_fw_laws.proofs.Numberings.{node_back, other_test, Renumbers, sum-below}
+use Rattle.psci_fw_laws.proofs.StoppingBy.{affinity-by, chosen, cpu_off-by, cpu_on-by}
+use Rattle.psci_fw_laws.proofs.StoppingBy.{has_node-by, hw_state-by, mode_asked-by}
+use Rattle.psci_fw_laws.proofs.StoppingBy.{suspend_asked-by, system_message-by, system_reset2-by}
+use Rattle.psci_fw_laws.proofs.StoppingBy.{system_suspend-by, updated-by, with_phase-by}
+use Rattle.psci_fw_laws.proofs.Words.{◌&&◌, ◌∙◌, ◌≡◌, ◌⊎◌, Acknowledge, acknowledgement_by}
+use Rattle.psci_fw_laws.proofs.Words.{AckValue, answers, ap, arith, ask_named, AsksBy, below}
+use Rattle.psci_fw_laws.proofs.Words.{BoardValue, Bool, call_fault, CallsBy, changed, Clear}
+use Rattle.psci_fw_laws.proofs.Words.{cleared, confirms_on, Core, core_by, Enter, enter_fault}
+use Rattle.psci_fw_laws.proofs.Words.{eq-eqb, false, function_outcome, FwCall, FwFault, has_node}
+use Rattle.psci_fw_laws.proofs.Words.{if◌then◌else◌, in_life, is_made_at, is_path_place, Kind}
+use Rattle.psci_fw_laws.proofs.Words.{left_by, message_by, MessageValue, mode_of, nat_lt}
+use Rattle.psci_fw_laws.proofs.Words.{nat_tests, Node, node_by, node_of, None, not, Option}
+use Rattle.psci_fw_laws.proofs.Words.{option_map, Outcome, outcome_at, outcome_by, Part, PowerOn}
+use Rattle.psci_fw_laws.proofs.Words.{Put, refl, reply_by, reply_or, request_of, Rest, Slot}
+use Rattle.psci_fw_laws.proofs.Words.{slot_of, Smc, SparesBoot, Start, start_of_life, stops}
+use Rattle.psci_fw_laws.proofs.Words.{sum_by, sym, Take, taken, true, turns_off, updated, Values}
+use Rattle.psci_fw_laws.proofs.Words.{values_by, with_acknowledgement, with_arrival, with_claims}
+use Rattle.psci_fw_laws.proofs.Words.{with_halt, with_pending, with_rest, with_running}
+use Rattle.psci_fw_laws.proofs.Words.{with_slots, ℕ}
 
 -- Outstanding messages ----------------------------------------------------------------------------
 
@@ -214,3 +227,125 @@ module _ {b : BoardValue} {s : ℕ → ℕ → ℕ} (is : Renumbers b s) where
             i;
       })
       ∙ with_slots-by is (Acknowledge a) acknowledged
+
+-- What renumbered cores are answered, whatever the call -------------------------------------------
+
+-- The start of a life ---------------------------------------------------------------------------
+
+module _ {b : BoardValue} {s : ℕ → ℕ → ℕ} (is : Renumbers b s) where
+  first_confirmed-by : (level place : ℕ) → s 0 0 ≡ 0
+      →
+      (has_node b (record { level = level; place = s level place }) && not
+      (is_path_place b 0 level (s level place)))
+      ≡
+      (has_node b (record { level = level; place = place }) && not (is_path_place b 0 level place))
+  first_confirmed-by level place boot = grind (arith, nat_tests, has_node-by)
+
+  pub start_of_life-by : (life : ℕ) → s 0 0 ≡ 0
+      → values_by s (start_of_life b life) ≡ start_of_life b life
+  start_of_life-by life boot = grind (arith, nat_tests, first_confirmed-by)
+
+  found-by : (life : ℕ) (v : Values) (t : Bool) → s 0 0 ≡ 0
+      → (if t then values_by s v else start_of_life b life)
+      ≡ values_by s (if t then v else start_of_life b life)
+  found-by life v true boot = refl
+  found-by life v false boot = sym (start_of_life-by life boot)
+
+  -- a core finds the values of the other numbers, where the boot core keeps its own or no life
+  -- begins
+  pub finds-by : (start : Start) (v : Values) → (start.life ≡ v.life) ⊎ (s 0 0 ≡ 0)
+      → FindsBy b s start v
+  finds-by start v spares = search (arith, eq-eqb, found-by)
+
+  -- Answers ---------------------------------------------------------------------------------------
+
+  pub enter_fault-by : (v : Values) (c : ℕ) (start : Start)
+      → enter_fault b (values_by s v) (s 0 c) start ≡ enter_fault b v c start
+  enter_fault-by v c start = rw (is.inside 0 c, is.back 0 c)
+
+  without_opening-by : (found arrived : Values) (c : ℕ) (start : Start)
+      → without_opening b (values_by s found) (values_by s arrived) (s 0 c) start
+      ≡ outcome_by s (without_opening b found arrived c start)
+  without_opening-by found arrived c start = search (arith, chosen, cpu_off-by)
+
+  -- what a core is answered that found and left these values
+  answered-by : (found arrived : Values) (c : ℕ) (start : Start)
+      →
+      (if found.halting then stops else outcome_at b (values_by s found) (values_by s arrived)
+      (s 0 c) start (found.opening (s 0 (s 0 c))))
+      ≡ outcome_by s
+      (if found.halting then stops else outcome_at b found arrived c start (found.opening c))
+  answered-by found arrived c start = search (arith, chosen, nat_tests, without_opening-by)
+
+  pub enter_outcome-by : (v : Values) (c : ℕ) (start : Start) → FindsBy b s start v
+      → enter_outcome b (values_by s v) (s 0 c) start ≡ outcome_by s (enter_outcome b v c start)
+  unfolding enter_outcome
+  enter_outcome-by v c start finds =
+      ap (λ (found : Values). if found.halting then stops
+      else outcome_at b found (with_arrival b (s 0 c) start (values_by s v)) (s 0 c) start
+      (found.opening (s 0 c))) finds
+      ∙ (ap (λ (arrived : Values). if (in_life b start.life v).halting then stops
+      else outcome_at b (values_by s (in_life b start.life v)) arrived (s 0 c) start
+      ((in_life b start.life v).opening (s 0 (s 0 c)))) (with_arrival-by is c start v finds)
+      ∙ answered-by (in_life b start.life v) (with_arrival b c start v) c start)
+
+-- Functions ---------------------------------------------------------------------------------------
+
+module _ {b : BoardValue} {s : ℕ → ℕ → ℕ} (is : Renumbers b s) where
+  function-by : (v : Values) (c : ℕ) (r q : Request) → AsksBy b s r q
+      → function_outcome b (values_by s v) (s 0 c) q ≡ outcome_by s (function_outcome b v c r)
+  function-by v c (requests.CpuOn target entry_point context) q asks =
+      rw asks.2 (cpu_on-by is v target asks.0 entry_point asks.1)
+  function-by v c (requests.AffinityInfo level target) q asks =
+      rw asks.2 (affinity-by is v (node_of b target level) (node_of b asks.0 level) asks.1)
+  function-by v c (requests.NodeHwState level target) q asks =
+      rw asks.2 (hw_state-by is v (node_of b target level) (node_of b asks.0 level) asks.1)
+  function-by v c (requests.CpuSuspend state entry_point context) q asks =
+      rw asks (suspend_asked-by is v c entry_point (ask_named b state))
+  function-by v c requests.CpuOff q asks = rw asks (cpu_off-by is v c)
+  function-by v c requests.SystemOff q asks = rw asks (system_message-by is v kinds.Off c)
+  function-by v c requests.SystemReset q asks = rw asks (system_message-by is v kinds.Reset c)
+  function-by v c (requests.SystemReset2 reset_type cookie) q asks =
+      rw asks (system_reset2-by is v c reset_type)
+  function-by v c (requests.SystemSuspend entry_point context) q asks =
+      rw asks (system_suspend-by is v c entry_point)
+  function-by v c (requests.SetSuspendMode mode) q asks =
+      rw asks (mode_asked-by is v c (mode_of mode))
+  function-by v c r q asks = rw asks
+
+  -- in a halting life too
+  pub outcome_of-by : (v : Values) (c : ℕ) (r q : Request) → AsksBy b s r q
+      → outcome_of b (values_by s v) (s 0 c) q ≡ outcome_by s (outcome_of b v c r)
+  unfolding outcome_of
+  outcome_of-by v c r q asks = chosen is v.halting stops _ stops _ refl (function-by v c r q asks)
+
+-- Answers ---------------------------------------------------------------------------------------
+
+module _ {b : BoardValue} {s : ℕ → ℕ → ℕ} (is : Renumbers b s) where
+  call_fault-by : (v : Values) (c : ℕ) → call_fault b (values_by s v) (s 0 c) ≡ call_fault b v c
+  call_fault-by v c = rw (is.inside 0 c, is.back 0 c)
+
+  reply_or-by : (fault : Option FwFault) (o : Outcome)
+      → reply_or fault (outcome_by s o) ≡ reply_by s (reply_or fault o)
+  reply_or-by fault o = grind (arith, nat_tests)
+
+  -- the same refusal, and the same outcome of the other number
+  replied-by : (f g : Option FwFault) (o p : Outcome) → f ≡ g → o ≡ outcome_by s p
+      → reply_or f o ≡ reply_by s (reply_or g p)
+  replied-by f g o p same e = rw (same, e) (reply_or-by g p)
+
+  pub answer-by : (v : Values) (c : ℕ) (call other : FwCall) → CallsBy b s call other
+      → SparesBoot s v.life call
+      → answer b (values_by s v) (s 0 c) other ≡ reply_by s (answer b v c call)
+  unfolding answer
+  answer-by v c (Smc regs) (Smc r) calls spares =
+      replied-by _ _ _ _ (call_fault-by v c)
+      (outcome_of-by is v c (request_of regs) (request_of r) calls)
+  answer-by v c (Smc regs) other calls spares = absurd calls
+  answer-by v c (Enter start) other calls spares =
+      rw calls
+      (replied-by _ _ _ _ (enter_fault-by is v c start)
+      (enter_outcome-by is v c start (finds-by is start v spares)))
+  answer-by v c (Take a) other calls spares =
+      rw (calls, at_slot-by is v a)
+      (ap replies.Taken (taken-by is a (v.outstanding (slot_of a.kind a.core))))

@@ -1,14 +1,120 @@
 -- No claim is above the known starts below its domain; claims of one domain stay apart, and below a
 -- current one no core runs.
-use Rattle.psci_fw_laws.proofs.Words.{nat_tests, ◌<◌, ◌≡◌, ◌≤◌, ap, AreQuiet, AreSent, arith}
-use Rattle.psci_fw_laws.proofs.Words.{BoardValue, Bool, cores, inl, inr, IsClaimOn, IsFromMessage}
-use Rattle.psci_fw_laws.proofs.Words.{known_below, List, MessageValue, Part, Phase, Running, subst}
-use Rattle.psci_fw_laws.proofs.Words.{sym, up, updated, ℕ, ◌∙◌, ◌∷◌, [], AreRising, cases_eq, Down}
-use Rattle.psci_fw_laws.proofs.Words.{false, first_phase, is_kind, known_on, part_for, refl}
-use Rattle.psci_fw_laws.proofs.Words.{slice_get, Some, suc, zero}
-use Rattle.psci_fw_laws.proofs.Parts.{part_has, updated_at, updated_here, updated_there, claim_more}
-use Rattle.psci_fw_laws.proofs.Parts.{no_part}
-use Rattle.psci_fw_laws.proofs.Sums.{known_less, known_same}
+use Rattle.psci_fw_spec.specs.NodeHwState.{node_hw}
+use Rattle.psci_fw_spec.specs.declared.hw.Hw.TheVariants.{Off, On, Standby}
+use Rattle.psci_fw_spec.specs.psci_abi.declared.registers.Format.TheVariants.{Original}
+use Rattle.psci_fw_laws.specs.Messages.{IsCarriedOut}
+use Rattle.psci_fw_laws.proofs.Refusing.{known_less, known_same}
+use Rattle.psci_fw_laws.proofs.Words.{◌<◌, ◌∙◌, ◌∷◌, ◌≡◌, ◌≤◌, ◌⊎◌, [], AckValue, and_from, ap}
+use Rattle.psci_fw_laws.proofs.Words.{AreQuiet, AreRising, AreSent, arith, BoardValue, Bool}
+use Rattle.psci_fw_laws.proofs.Words.{cases_eq, confirms_on, cores, Down, eq-eqb, eqb-false}
+use Rattle.psci_fw_laws.proofs.Words.{eqb-true, false, first_phase, inl, inr, is_kind, IsClaimOn}
+use Rattle.psci_fw_laws.proofs.Words.{IsFromMessage, Kind, known_below, known_on, List, lt-ltb}
+use Rattle.psci_fw_laws.proofs.Words.{MessageValue, nat_tests, Node, Part, part_for, Phase, refl}
+use Rattle.psci_fw_laws.proofs.Words.{Running, slice_get, Some, subst, suc, sym, true, up}
+use Rattle.psci_fw_laws.proofs.Words.{updated, Values, with_acknowledgement, zero, ℕ}
+
+-- Worked examples speak of this board, and of messages so -----------------------------------------
+
+-- two clusters of two cores
+abbrev pub board : BoardValue
+board = record {
+  levels = (2 ∷ 2 ∷ []) ∷ (2 ∷ []) ∷ [];
+  ranges = record { start = 0x40000000; end = 0x40100000 } ∷ [];
+  boot = 0x40000000;
+  starts = 1000;
+  lives = 3;
+  format = Original;
+}
+
+-- a message: kind, core, life, number, parts
+abbrev pub message : Kind → ℕ → ℕ → ℕ → List Part → MessageValue
+message kind c life number parts = record {
+  kind = kind;
+  core = record { number = c };
+  life = life;
+  number = number;
+  parts = parts;
+}
+
+-- a part: level, depth, generation
+abbrev pub part : ℕ → ℕ → ℕ → Part
+part level depth generation = record { level = level; depth = depth; generation = generation }
+
+-- Which messages claim something of a domain ------------------------------------------------------
+
+-- A function updated at one core ---------------------------------------------------------------
+
+pub updated_at : {A : Type 0} (P : A → Type 0) (f : ℕ → A) (c : ℕ) (x : A) (k : ℕ)
+    → (k ≡ c → P x) → ((k ≡ c → ⊥) → P (f k)) → P (updated f c x k)
+updated_at P f c x k here there = grind (arith, nat_tests, eqb-false, eqb-true)
+
+pub updated_here : {A : Type 0} (f : ℕ → A) (c : ℕ) (x : A) → updated f c x c ≡ x
+updated_here f c x = updated_at (λ y. y ≡ x) f c x c (λ e. refl) (λ e. absurd (e refl))
+
+pub updated_there : {A : Type 0} (f : ℕ → A) (c : ℕ) (x : A) (k : ℕ) → (k ≡ c → ⊥)
+    → updated f c x k ≡ f k
+updated_there f c x k ne = updated_at (λ y. y ≡ f k) f c x k (λ e. absurd (ne e)) (λ e. refl)
+
+-- Parts ---------------------------------------------------------------------------------------
+
+pub kind_is : (k : Kind) → is_kind k Down ≡ true → k ≡ Down
+kind_is k e = grind (arith, nat_tests)
+
+-- What it means that a message has a part for a domain.
+pub record HasPart (b : BoardValue) (life level place : ℕ) (m : MessageValue) (p : Part)
+    : Type 0 where
+  pub kind : m.kind ≡ Down
+  pub present : m.life ≡ life
+  pub on : place ≡ up b level m.core.number
+  pub part : slice_get m.parts level ≡ Some p
+
+pub part_has : (b : BoardValue) (life level place : ℕ) (m : MessageValue) (p : Part)
+    → part_for b life level place m ≡ Some p → HasPart b life level place m p
+part_has b life level place m p e = search (arith, nat_tests, kind_is)
+
+pub part_from : (b : BoardValue) (life level place : ℕ) (m : MessageValue) (p : Part)
+    → HasPart b life level place m p → part_for b life level place m ≡ Some p
+part_from b life level place m p h = grind (arith, nat_tests)
+
+-- Claims --------------------------------------------------------------------------------------
+
+-- one more message
+pub claim_new : (b : BoardValue) (life level place : ℕ) (p : Part) (m : MessageValue)
+    (sent : List MessageValue) → part_for b life level place m ≡ Some p
+    → IsClaimOn b life level place p (m ∷ sent)
+claim_new b life level place p m sent e = grind (arith, nat_tests)
+
+pub claim_old : (b : BoardValue) (life level place : ℕ) (p : Part) (m : MessageValue)
+    (sent : List MessageValue) → IsClaimOn b life level place p sent
+    → IsClaimOn b life level place p (m ∷ sent)
+claim_old b life level place p m sent claim = elim claim [
+  | inl s ↦ inl s
+  | inr f ↦ inr (record { index = suc f.index; message = f.message; at = f.at; part = f.part })
+]
+
+from_more : (b : BoardValue) (life level place : ℕ) (p : Part) (m n : MessageValue)
+    (sent : List MessageValue) (k : ℕ) → slice_get (m ∷ sent) k ≡ Some n
+    → part_for b life level place n ≡ Some p
+    → (part_for b life level place m ≡ Some p) ⊎ IsFromMessage b life level place p sent
+from_more b life level place p m n sent k at e = grind (arith, nat_tests)
+
+pub claim_more : (b : BoardValue) (life level place : ℕ) (p : Part) (m : MessageValue)
+    (sent : List MessageValue) → IsClaimOn b life level place p (m ∷ sent)
+    → (part_for b life level place m ≡ Some p) ⊎ IsClaimOn b life level place p sent
+claim_more b life level place p m sent claim = grind (arith, nat_tests, from_more)
+
+-- a message that is no Down claims nothing
+pub no_part : (b : BoardValue) (life level place : ℕ) (p : Part) (m : MessageValue)
+    → is_kind m.kind Down ≡ false → part_for b life level place m ≡ Some p → ⊥
+no_part b life level place p m other e = grind (arith, nat_tests, part_has)
+
+pub claim_before : (b : BoardValue) (life level place : ℕ) (p : Part) (m : MessageValue)
+    (sent : List MessageValue) → is_kind m.kind Down ≡ false
+    → IsClaimOn b life level place p (m ∷ sent) → IsClaimOn b life level place p sent
+claim_before b life level place p m sent other claim = grind (arith, nat_tests, claim_more, no_part)
+
+-- Claiming ----------------------------------------------------------------------------------------
 
 -- No claim is above the known starts --------------------------------------------------------------
 
@@ -175,3 +281,41 @@ first_rests c = grind (arith, updated_at)
 pub quiet_life : {b : BoardValue} {life : ℕ} (known : ℕ → ℕ) {sent : List MessageValue}
     → AreQuiet b life known first_phase sent
 quiet_life known level place p claim current c on at = first_rests c
+
+-- What an acknowledgement confirms, exactly, and what NODE_HW_STATE says then ---------------------
+
+-- What is carried out -------------------------------------------------------------------------
+
+module _ (b : BoardValue) (v : Values) (a : AckValue) (level place : ℕ) where
+  carried_by : confirms_on b v a level place ≡ true → IsCarriedOut b v a level place
+  carried_by e = search (arith, nat_tests, kind_is)
+
+  pub confirmed_only : (with_acknowledgement b a v).confirmed level place ≡ true
+      → (v.confirmed level place ≡ true) ⊎ IsCarriedOut b v a level place
+  confirmed_only e = grind (arith, level, carried_by)
+
+  pub confirmed_where : (v.confirmed level place ≡ true) ⊎ IsCarriedOut b v a level place
+      → (with_acknowledgement b a v).confirmed level place ≡ true
+  confirmed_where how = grind (arith, level, and_from, lt-ltb, eq-eqb)
+
+-- What is said --------------------------------------------------------------------------------
+
+pub says_off : (v : Values) (n : Node) → v.confirmed n.level n.place ≡ true
+    → v.granted n.level n.place ≡ 3 → node_hw v n ≡ Off
+says_off v n e f = grind arith
+
+pub says_standby : (v : Values) (n : Node) → v.confirmed n.level n.place ≡ true
+    → 0 < v.granted n.level n.place → v.granted n.level n.place < 3 → node_hw v n ≡ Standby
+says_standby v n e some low = grind arith
+
+pub says_on : (v : Values) (n : Node) → v.granted n.level n.place ≡ 0 → node_hw v n ≡ On
+says_on v n e = grind arith
+
+pub unconfirmed_on : (v : Values) (n : Node) → v.confirmed n.level n.place ≡ false
+    → node_hw v n ≡ On
+unconfirmed_on v n e = grind arith
+
+pub says_alike : (v w : Values) (n m : Node)
+    → v.confirmed n.level n.place ≡ w.confirmed m.level m.place
+    → v.granted n.level n.place ≡ w.granted m.level m.place → node_hw v n ≡ node_hw w m
+says_alike v w n m e f = grind arith

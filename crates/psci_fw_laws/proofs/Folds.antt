@@ -1,11 +1,21 @@
 -- A fold over numbers does not depend on the order of two of them, if its steps commute; and what
 -- is counted over numbers is such a fold.
-use Rattle.psci_fw_laws.proofs.Words.{nat_tests, ◌+◌, ◌<◌, ◌==◌, ◌∙◌, ◌∷◌, ◌≡◌, ◌≤◌, ◌⊎◌, [], ap}
-use Rattle.psci_fw_laws.proofs.Words.{arith, Bool, cases_eq, if◌then◌else◌, inl, inr, List}
-use Rattle.psci_fw_laws.proofs.Words.{range_with_len, refl, suc, swap, sym, zero, ℕ, ◌&&◌}
-use Rattle.psci_fw_laws.proofs.Words.{◌||◌, cases_Bool, false, filter, least, list_all, list_any}
-use Rattle.psci_fw_laws.proofs.Words.{map, sum_by, sum_by-cons, true}
-use Rattle.std.proofs.Common.{min}
+use Rattle.std.proofs.Common.{min, nat_le}
+use Rattle.psci_fw_spec.specs.declared.outcome.Act.TheVariants as acts
+use Rattle.psci_fw_spec.specs.psci_abi.Calls.{success}
+use Rattle.psci_fw_spec.specs.psci_abi.declared.request.Request.TheVariants as requests
+use Rattle.psci_fw_laws.proofs.Words.{◌&&◌, ◌+◌, ◌<◌, ◌==◌, ◌||◌, ◌∙◌, ◌∷◌, ◌≡◌, ◌≤◌, ◌⊎◌, []}
+use Rattle.psci_fw_laws.proofs.Words.{ap, AreValues, arith, BoardValue, Bool}
+use Rattle.psci_fw_laws.proofs.Words.{cases_Bool, cases_eq, cases_lt, change, Code}
+use Rattle.psci_fw_laws.proofs.Words.{cond, Effect, false, filter, function_effect}
+use Rattle.psci_fw_laws.proofs.Words.{GoesOn, if◌then◌else◌, inl, inr, int_eq}
+use Rattle.psci_fw_laws.proofs.Words.{IsAllowed, IsCalling, least, List, list_all}
+use Rattle.psci_fw_laws.proofs.Words.{list_any, map, mode_effect, mode_of, nat_lt, nat_tests}
+use Rattle.psci_fw_laws.proofs.Words.{None, Outcome}
+use Rattle.psci_fw_laws.proofs.Words.{range_with_len, refl, Request, Running}
+use Rattle.psci_fw_laws.proofs.Words.{Some, suc, sum_by}
+use Rattle.psci_fw_laws.proofs.Words.{sum_by-cons, swap, sym, true, Values}
+use Rattle.psci_fw_laws.proofs.Words.{zero, ℕ}
 
 -- a right fold
 abbrev pub fold : {R : Type 0} → (ℕ → R → R) → R → List ℕ → R
@@ -173,3 +183,149 @@ list_all-fold f (k ∷ ks) = ap (λ (r : Bool). f k && r) (list_all-fold f ks)
 pub list_any-fold : (f : ℕ → Bool) (ks : List ℕ) → list_any f ks ≡ fold (ors f) false ks
 list_any-fold f [] = refl
 list_any-fold f (k ∷ ks) = ap (λ (r : Bool). f k || r) (list_any-fold f ks)
+
+-- A fold over numbers whose steps commute is the same over their other numbers --------------------
+
+-- the first n numbers renumbered among themselves: those whose other number is one of them
+abbrev so_far : (ℕ → ℕ) → ℕ → ℕ → ℕ
+so_far s n k = if nat_lt k n && nat_lt (s k) n then s k else k
+
+among : (s : ℕ → ℕ) (n k : ℕ) → k < n → s k < n → so_far s n k ≡ s k
+among s n k h i = grind arith
+
+beyond : (s : ℕ → ℕ) (n k : ℕ) → n ≤ k → so_far s n k ≡ k
+beyond s n k h = grind arith
+
+-- one number more, whose other number is larger: nothing changes yet
+later : (s : ℕ → ℕ) (n k : ℕ) → ((j : ℕ) → s (s j) ≡ j) → n < s n
+    → so_far s (suc n) k ≡ so_far s n k
+later s n k back over = grind (arith, back k, back n)
+
+-- a number whose other number came before stays, until then
+own : (s : ℕ → ℕ) (n : ℕ) → ((j : ℕ) → s (s j) ≡ j) → s n ≤ n → so_far s n (s n) ≡ s n
+own s n back under = grind (arith, back n)
+
+-- all other numbers are where they were
+unmoved : (s : ℕ → ℕ) (n k : ℕ) → (k ≡ n → ⊥) → (s k ≡ n → ⊥)
+    → so_far s (suc n) k ≡ so_far s n k
+unmoved s n k d other = grind arith
+
+-- one number more, whose other number came before: the two are swapped first
+sooner : (s : ℕ → ℕ) (n k : ℕ) → ((j : ℕ) → s (s j) ≡ j) → s n ≤ n
+    → so_far s (suc n) k ≡ so_far s n (swap n (s n) k)
+sooner s n k back under = grind (arith, nat_tests, cases_eq, own, unmoved)
+
+-- a fold over the other numbers, so far
+fold-so_far : {R : Type 0} (s : ℕ → ℕ) (g : ℕ → R → R) (z : R) (m n : ℕ) → Commutes g
+    → ((j : ℕ) → s (s j) ≡ j) → n ≤ m
+    → fold (λ k r. g (so_far s n k) r) z (range_with_len 0 m) ≡ fold g z (range_with_len 0 m)
+fold-so_far s g z m zero c back h = grind (arith, alike, beyond)
+fold-so_far s g z m (suc n) c back h = elim (cases_lt n (s n)) [
+  | inl over ↦
+      alike (λ k r. g (so_far s (suc n) k) r) (λ k r. g (so_far s n k) r) z 0 m (λ k r i j.
+      ap (λ (x : ℕ). g x r) (later s n k back over))
+      ∙ fold-so_far s g z m n c back (omega arith)
+  | inr under ↦
+      alike (λ k r. g (so_far s (suc n) k) r) (λ k r. g (so_far s n (swap n (s n) k)) r) z 0 m
+      (λ k r i j. ap (λ (x : ℕ). g x r) (sooner s n k back under))
+      ∙ (swapped-fold (λ k r. g (so_far s n k) r) z 0 m n (s n)
+      (λ i j r. c (so_far s n i) (so_far s n j) r)
+      (λ i j. (omega arith, omega arith)) (λ i j. (omega arith, omega arith))
+      ∙ fold-so_far s g z m n c back (omega arith))
+]
+
+-- a fold over the other numbers of all numbers below m
+pub fold-other : {R : Type 0} (s : ℕ → ℕ) (g : ℕ → R → R) (z : R) (m : ℕ) → Commutes g
+    → ((j : ℕ) → s (s j) ≡ j) → ((j : ℕ) → j < m → s j < m)
+    → fold (λ k r. g (s k) r) z (range_with_len 0 m) ≡ fold g z (range_with_len 0 m)
+fold-other s g z m c back inside =
+    alike (λ k r. g (s k) r) (λ k r. g (so_far s m k) r) z 0 m (λ k r i j.
+    let below : k < m = omega arith in
+    ap (λ (x : ℕ). g x r) (sym (among s m k below (inside k below))))
+    ∙ fold-so_far s g z m m c back (omega arith)
+
+-- Windows ---------------------------------------------------------------------------------------
+
+-- a number is one of so many from a on
+abbrev pub is_within : ℕ → ℕ → ℕ → Bool
+is_within a n k = nat_le a k && nat_lt k (a + n)
+
+-- a step at those numbers
+abbrev pub within : {R : Type 0} → ℕ → ℕ → (ℕ → R → R) → ℕ → R → R
+within a n g k r = if is_within a n k then g k r else r
+
+pub is_within-true : (a n k : ℕ) → a ≤ k → k < a + n → is_within a n k ≡ true
+is_within-true a n k h i = grind arith
+
+is_within-under : (a n k : ℕ) → k < a → is_within a n k ≡ false
+is_within-under a n k h = grind arith
+
+pub is_within-false : (a n k : ℕ) → (a ≤ k → k < a + n → ⊥) → is_within a n k ≡ false
+is_within-false a n k out = grind arith
+
+-- the numbers of a window after its first one
+is_within-next : (a n k : ℕ) → a < k → is_within a (suc n) k ≡ is_within (a + 1) n k
+is_within-next a n k h = grind arith
+
+is_within-none : (a k : ℕ) → is_within a 0 k ≡ false
+is_within-none a k = grind arith
+
+-- a fold over a window is one over all numbers with steps at the window alone
+pub fold-window : {R : Type 0} (g : ℕ → R → R) (z : R) (i m a n : ℕ)
+    → ((k : ℕ) → a ≤ k → k < a + n → (i ≤ k) × (k < i + m))
+    → fold (within a n g) z (range_with_len i m) ≡ fold g z (range_with_len a n)
+fold-window g z i zero a zero inside = refl
+fold-window g z i zero a (suc n) inside =
+    let at = inside a (omega arith) (omega arith) in absurd (omega (arith, at.0, at.1))
+fold-window g z i (suc m) a zero inside =
+    rw (is_within-none a i) (fold-window g z (i + 1) m a 0 (λ k h j. absurd (omega arith)))
+fold-window g z i (suc m) a (suc n) inside =
+    let first = inside a (omega arith) (omega arith) in
+    elim (cases_eq i a) [
+      | inl same ↦
+          rw (is_within-true a (suc n) i (omega arith) (omega arith))
+          (ap (g i) (alike (within a (suc n) g) (within (a + 1) n g) z (i + 1) m (λ k r h j.
+          ap (λ (t : Bool). if t then g k r else r) (is_within-next a n k (omega arith)))
+          ∙ fold-window g z (i + 1) m (a + 1) n (λ k h j.
+          let at = inside k (omega arith) (omega arith) in
+          (omega (arith, same, h), omega (arith, at.1))))
+          ∙ ap (λ (x : ℕ). g x (fold g z (range_with_len (a + 1) n))) same)
+      | inr other ↦
+          rw (is_within-under a (suc n) i (omega (arith, other, first.0)))
+          (fold-window g z (i + 1) m a (suc n) (λ k h j.
+          let at = inside k h j in (omega (arith, other, first.0, h), omega (arith, at.1))))
+    ]
+
+-- Lower -------------------------------------------------------------------------------------------
+-- What is known before an answer, and what is to be shown of its effect.
+
+-- What is known of the values before an answer.
+pub record IsReady (b : BoardValue) (v : Values) : Type 0 where
+  pub values : AreValues b v
+  pub entered : (c : ℕ) → v.phase c ≡ Running → 0 < v.known c
+
+-- an effect is allowed that leaves values such as the firmware keeps
+abbrev pub Allows : BoardValue → Values → Effect → Type 0
+Allows b v e = AreValues b (change b e v) → IsAllowed b v e
+
+-- what a function comes down to that ended so
+abbrev pub outcome_effect : BoardValue → ℕ → Request → Outcome → Effect
+outcome_effect b c r o = function_effect b c r o.act o.message
+
+-- Functions that return ------------------------------------------------------------------------
+
+module _ {b : BoardValue} {v : Values} {c : ℕ} (calls : IsCalling b v c) where
+  mode_allowed : (number : ℕ) (t : Bool)
+      → Allows b v (cond t (mode_effect c (mode_of number)) (GoesOn c))
+  mode_allowed number true are = by_mode (mode_of number)
+    where
+      by_mode : (o : _) → IsAllowed b v (mode_effect c o)
+      by_mode None = calls
+      by_mode (Some mode) = calls
+  mode_allowed number false are = calls
+
+  pub returned : (r : Request) (code : Code)
+      → Allows b v (function_effect b c r (acts.Return code) None)
+  returned (requests.SetSuspendMode number) code are =
+      mode_allowed number (int_eq code.0 success.0) are
+  returned r code are = calls

@@ -1,31 +1,164 @@
 -- What is kept after the calls of renumbered cores, and histories told of them.
-use Rattle.psci_fw_laws.proofs.Words.{◌∙◌, ◌≡◌, acknowledgement_by, Acknowledges, Act, ap, AsksBy}
-use Rattle.psci_fw_laws.proofs.Words.{AsksOn, Away, BoardValue, Bool, CallsBy, change, Effect}
-use Rattle.psci_fw_laws.proofs.Words.{effect_of, Enter, enter_effect, Enters, false}
-use Rattle.psci_fw_laws.proofs.Words.{function_effect, FwCall, FwReply, GoesOn, Halts}
-use Rattle.psci_fw_laws.proofs.Words.{if◌then◌else◌, int_eq, message_by, MessageValue, mode_effect}
-use Rattle.psci_fw_laws.proofs.Words.{mode_of, None, Nothing, Option, option_map, Out, Parks, refl}
-use Rattle.psci_fw_laws.proofs.Words.{reply_by, request_of, Rests, Running, SetsMode, Smc, Some}
-use Rattle.psci_fw_laws.proofs.Words.{SparesBoot, Start, Stops, StopsAtOnce, success, SuspendMode}
-use Rattle.psci_fw_laws.proofs.Words.{Take, true, Values, values_by, with_arrival, with_claims}
-use Rattle.psci_fw_laws.proofs.Words.{with_halt, with_mode, with_pending, with_phase, with_rest}
-use Rattle.psci_fw_laws.proofs.Words.{with_running, ℕ, ◌∷◌, [], answer, FwExchange, inr, IsLegal}
-use Rattle.psci_fw_laws.proofs.Words.{List, start_of_life, sym, values_of}
-use Rattle.psci_abi.specs.declared.code.Code.{Code}
+use Rattle.psci_abi.specs.declared.registers.Code.{Code}
 use Rattle.psci_abi.specs.declared.request.Request.{Request}
 use Rattle.psci_messages.specs.declared.taken.Taken.TheVariants.{Used}
-use Rattle.psci_fw_spec.specs.After.{after}
-use Rattle.psci_fw_spec.specs.Effects.{return_effect, sent_effect, stop_effect}
-use Rattle.psci_fw_laws.proofs.Changing.{FindsBy, power_on_by, with_acknowledgement-by}
-use Rattle.psci_fw_laws.proofs.Changing.{with_arrival-by, with_claims-by, with_halt-by}
-use Rattle.psci_fw_laws.proofs.Changing.{with_pending-by, with_rest-by, with_running-by}
-use Rattle.psci_fw_laws.proofs.Calling.{finds-by, answer-by, start_of_life-by}
-use Rattle.psci_fw_laws.proofs.Numberings.{Renumbers}
-use Rattle.psci_fw_laws.proofs.StoppingBy.{with_phase-by}
+use Rattle.psci_fw_spec.specs.Effects.{after, return_effect, sent_effect, stop_effect}
+use Rattle.psci_fw_spec.specs.Changes.{first_status}
 use Rattle.psci_fw_laws.specs.Renumbered.{ExchangedBy, HappenedBy}
+use Rattle.psci_fw_laws.proofs.Changing.{answer-by, finds-by, FindsBy, power_on_by}
+use Rattle.psci_fw_laws.proofs.Changing.{start_of_life-by, with_acknowledgement-by, with_arrival-by}
+use Rattle.psci_fw_laws.proofs.Changing.{with_claims-by, with_halt-by, with_pending-by}
+use Rattle.psci_fw_laws.proofs.Changing.{with_rest-by, with_running-by}
+use Rattle.psci_fw_laws.proofs.Claiming.{none_arrived, NoneCurrent, part_has, quiet_arrival}
+use Rattle.psci_fw_laws.proofs.Claiming.{quiet_life, quiet_phase, updated_at, updated_here}
+use Rattle.psci_fw_laws.proofs.Started.{granted_arrival, granted_life, granted_phase}
+use Rattle.psci_fw_laws.proofs.Numberings.{Renumbers}
+use Rattle.psci_fw_laws.proofs.Sending.{outstanding_arrival, outstanding_none, outstanding_phase}
+use Rattle.psci_fw_laws.proofs.Sending.{sent_arrival, sent_life, sent_phase}
+use Rattle.psci_fw_laws.proofs.StoppingBy.{with_phase-by}
+use Rattle.psci_fw_laws.proofs.Words.{[], ◌<◌, ◌==◌, ◌∙◌, ◌∷◌, ◌≡◌, ◌≤◌, acknowledgement_by}
+use Rattle.psci_fw_laws.proofs.Words.{Acknowledges, Act, answer, ap, AreRising, AreSent, arith}
+use Rattle.psci_fw_laws.proofs.Words.{AsksBy, AsksOn, Away, BoardValue, Bool, CallsBy, change}
+use Rattle.psci_fw_laws.proofs.Words.{cond-true, cond_both, Effect, effect_of, Enter, enter_effect}
+use Rattle.psci_fw_laws.proofs.Words.{Enters, eq-eqb, eqb-false, eqb-true, false, function_effect}
+use Rattle.psci_fw_laws.proofs.Words.{FwCall, FwExchange, FwReply, GoesOn, Halts, Holds}
+use Rattle.psci_fw_laws.proofs.Words.{if◌then◌else◌, in_life, inr, int_eq, is_on, IsEntering}
+use Rattle.psci_fw_laws.proofs.Words.{IsLegal, List, message_by, MessageValue, mode_effect, mode_of}
+use Rattle.psci_fw_laws.proofs.Words.{None, Nothing, OfCore, Option, option_map, Out, Parks, Phase}
+use Rattle.psci_fw_laws.proofs.Words.{refl, reply_by, request_of, Rests, Running, SetsMode}
+use Rattle.psci_fw_laws.proofs.Words.{slice_get, Smc, Some, SparesBoot, Start, start_of_life, Stops}
+use Rattle.psci_fw_laws.proofs.Words.{StopsAtOnce, success, SuspendMode, sym, Take, true}
+use Rattle.psci_fw_laws.proofs.Words.{unless_pending, updated, Values, values_by, values_of}
+use Rattle.psci_fw_laws.proofs.Words.{with_arrival, with_claims, with_halt, with_mode, with_pending}
+use Rattle.psci_fw_laws.proofs.Words.{with_phase, with_rest, with_running, ℕ}
+use Rattle.psci_board.proofs.Paths.{path_laws}
+use Rattle.psci_board.specs.Board.{IsBoard}
+use Rattle.psci_fw_spec.proofs.Stopping.{values_more, values_none}
 use Rattle.psci_abi.specs.declared.request.Request.TheVariants as requests
 use Rattle.psci_fw_spec.specs.declared.outcome.Act.TheVariants as acts
 use Rattle.psci_fw_spec.specs.declared.reply.FwReply.TheVariants as replies
+use Rattle.psci_fw_spec.specs.declared.status.Status.TheVariants as statuses
+
+-- A core enters: what it finds, what its arrival leaves, and what it does then --------------------
+
+-- The start of a life -------------------------------------------------------------------------
+
+pub first_not_on : (c : ℕ) → is_on (first_status c) ≡ false
+first_not_on c = grind (arith, updated_at)
+
+pub first_holds : (b : BoardValue) (life : ℕ) (halting : Bool) (known : ℕ → ℕ) (phase : ℕ → Phase)
+    (sent : List MessageValue) (later : ℕ) → later ≤ b.lives → life < later → AreRising b sent
+    → AreSent b life halting known phase sent → Holds b (start_of_life b later) sent
+first_holds b life halting known phase sent later most h apart are = record {
+  lives = most;
+  messages = sent_life sent are h;
+  apart = apart;
+  quiet = quiet_life (λ c. 0);
+  grants = granted_life (λ level place p f.
+      let has = part_has b later level place f.message p f.part in
+      omega (arith, (are f.index f.message f.at).begun, has.present));
+  entered = λ c e. first_not_on c;
+  slots = outstanding_none;
+}
+
+-- what a core finds
+pub found_holds : (b : BoardValue) (v : Values) (sent : List MessageValue) (c : ℕ) (s : Start)
+    → IsEntering b v c s → Holds b v sent → Holds b (in_life b s.life v) sent
+found_holds b v sent c s enters holds =
+    cond_both (s.life == v.life) v (start_of_life b s.life) (λ w. Holds b w sent) (λ e. holds)
+    (λ e.
+    let other = eqb-false s.life v.life e in
+    first_holds b v.life v.halting v.known v.phase sent s.life enters.lives
+    (omega (arith, enters.life, other)) holds.apart holds.messages)
+
+pub found_later : (b : BoardValue) (v : Values) (c : ℕ) (s : Start) → IsEntering b v c s
+    → (in_life b s.life v).known c < s.number
+found_later b v c s enters = grind (arith, cond_both, eqb-true)
+
+pub found_life : (b : BoardValue) (v : Values) (life : ℕ) → (in_life b life v).life ≡ life
+found_life b v life = grind (arith, cond_both, eqb-true)
+
+-- The arrival ---------------------------------------------------------------------------------
+
+pub arrives : (b : BoardValue) (v : Values) (sent : List MessageValue) (c : ℕ) (s : Start)
+    → IsBoard b → IsEntering b v c s → Holds b v sent → Holds b (with_arrival b c s v) sent
+arrives b v sent c s board enters holds =
+    let w : Values = in_life b s.life v in
+    let found : Holds b w sent = found_holds b v sent c s enters holds in
+    let later = found_later b v c s enters in
+    record {
+      lives = found.lives;
+      messages = sent_arrival sent found.messages c s.number (path_laws b board) later;
+      apart = found.apart;
+      quiet = quiet_arrival w.known found.quiet c s.number found.messages enters.core later;
+      grants = granted_arrival found.grants c s.number found.messages enters.core later;
+      entered = λ x. updated_at (λ k. k ≡ 0 → is_on (w.status x) ≡ false) w.known c s.number x
+          (λ here e. absurd (omega (arith, enters.some, e))) (λ there. found.entered x);
+      slots = outstanding_arrival found.slots c s.number;
+    }
+
+-- What is so of a core that has just entered.
+pub record IsNew (b : BoardValue) (v : Values) (sent : List MessageValue) (c : ℕ) : Type 0 where
+  pub known : 0 < v.known c
+  pub none : NoneCurrent b v.life v.known sent c
+  pub numbers : (k : ℕ) (m : MessageValue) → slice_get sent k ≡ Some m → m.life ≡ v.life
+      → m.core.number ≡ c → m.number < v.known c
+  pub slot : v.outstanding (OfCore c) ≡ None
+
+pub arrived_new : (b : BoardValue) (v : Values) (sent : List MessageValue) (c : ℕ) (s : Start)
+    → IsEntering b v c s → Holds b v sent → IsNew b (with_arrival b c s v) sent c
+arrived_new b v sent c s enters holds =
+    let w : Values = in_life b s.life v in
+    let found : Holds b w sent = found_holds b v sent c s enters holds in
+    let later = found_later b v c s enters in
+    let now : updated w.known c s.number c ≡ s.number = updated_here w.known c s.number in
+    record {
+      known = omega (arith, now, enters.some);
+      none = none_arrived sent found.messages c s.number enters.core later;
+      numbers = λ k m at life core.
+          let number = ((found.messages k m at).present life).number in
+          omega (arith, number, ap w.known core, now, later);
+      slot = cond-true (c == c) None (w.outstanding (OfCore c)) (eq-eqb c c refl);
+    }
+
+-- And then ------------------------------------------------------------------------------------
+
+-- a core that has just entered is of another phase
+new_phase : (b : BoardValue) (v : Values) (sent : List MessageValue) (c : ℕ) (left : Phase)
+    → IsNew b v sent c → Holds b v sent → Holds b (record v { phase = updated v.phase c left }) sent
+new_phase b v sent c left new holds = record {
+  lives = holds.lives;
+  messages = sent_phase sent holds.messages c left
+      (λ k m at life core number. absurd (omega (arith, new.numbers k m at life core, number)));
+  apart = holds.apart;
+  quiet = quiet_phase v.known holds.quiet c left (λ e. new.none);
+  grants = granted_phase holds.grants c left (λ e n. new.none);
+  entered = holds.entered;
+  slots = outstanding_phase holds.slots c left
+      (λ m e. let no : None ≡ Some m = sym new.slot ∙ e in absurd (cc));
+}
+
+pub runs : (b : BoardValue) (v : Values) (sent : List MessageValue) (c : ℕ) → IsNew b v sent c
+    → Holds b v sent → Holds b (with_running c v) sent
+runs b v sent c new holds =
+    let phased = new_phase b v sent c Running new holds in
+    record {
+      lives = phased.lives;
+      messages = phased.messages;
+      apart = phased.apart;
+      quiet = phased.quiet;
+      grants = phased.grants;
+      entered = λ x e. updated_at (λ s. is_on s ≡ false) v.status c statuses.On x
+          (λ here. absurd (omega (arith, new.known, ap v.known here, e)))
+          (λ there. holds.entered x e);
+      slots = phased.slots;
+    }
+
+pub stays : (b : BoardValue) (v : Values) (sent : List MessageValue) (c : ℕ) (left : Phase)
+    → IsNew b v sent c → Holds b v sent → Holds b (with_phase c left v) sent
+stays b v sent c left = new_phase b v sent c (unless_pending (v.phase c) left)
+
+-- Following ---------------------------------------------------------------------------------------
 
 -- Effects ---------------------------------------------------------------------------------------
 
@@ -187,12 +320,6 @@ module _ {b : BoardValue} {s : ℕ → ℕ → ℕ} (is : Renumbers b s) where
 
 -- Histories ---------------------------------------------------------------------------------------
 
--- What a history says of the values, and what an exchange more leaves.
-pub record Tied (b : BoardValue) : Type 0 where
-  pub first : values_of b [] ≡ start_of_life b 0
-  pub more : (e : FwExchange) (h : List FwExchange)
-      → values_of b (e ∷ h) ≡ after b e.core e.call e.reply (values_of b h)
-
 -- where the boot core keeps its number every call may begin a life
 spares : (s : ℕ → ℕ → ℕ) (life : ℕ) (call : FwCall) → s 0 0 ≡ 0 → SparesBoot s life call
 spares s life (Smc regs) boot = tt
@@ -208,16 +335,17 @@ module _ {b : BoardValue} {s : ℕ → ℕ → ℕ} (is : Renumbers b s) where
       rw (told.core, told.reply, same)
       (after-by is v e.core e.call f.call e.reply told.call (spares s v.life e.call boot))
 
-  pub values_of-by : (h g : List FwExchange) → Tied b → s 0 0 ≡ 0 → HappenedBy b s h g
+  pub values_of-by : (h g : List FwExchange) → s 0 0 ≡ 0 → HappenedBy b s h g
       → values_of b g ≡ values_by s (values_of b h)
-  values_of-by [] [] tied boot told =
-      tied.first ∙ (sym (start_of_life-by is 0 boot) ∙ ap (values_by s) (sym tied.first))
-  values_of-by (e ∷ h) (f ∷ g) tied boot told =
-      tied.more f g
+  values_of-by [] [] boot told =
+      values_none b
+      ∙ (sym (start_of_life-by is 0 boot) ∙ ap (values_by s) (sym (values_none b)))
+  values_of-by (e ∷ h) (f ∷ g) boot told =
+      values_more b f g
       ∙
-      (exchanged (values_of b h) (values_of b g) e f boot told.0 (values_of-by h g tied boot told.1)
-      ∙ ap (values_by s) (sym (tied.more e h)))
-  values_of-by h g tied boot told = absurd told
+      (exchanged (values_of b h) (values_of b g) e f boot told.0 (values_of-by h g boot told.1)
+      ∙ ap (values_by s) (sym (values_more b e h)))
+  values_of-by h g boot told = absurd told
 
   -- the other reply is right where the first one is
   reply-by : (v w : Values) (e f : FwExchange) → s 0 0 ≡ 0 → ExchangedBy b s e f → w ≡ values_by s v
@@ -226,12 +354,12 @@ module _ {b : BoardValue} {s : ℕ → ℕ → ℕ} (is : Renumbers b s) where
       rw (told.reply, right, told.core, same)
       (sym (answer-by is v e.core e.call f.call told.call (spares s v.life e.call boot)))
 
-  pub legal-by : (h g : List FwExchange) → Tied b → s 0 0 ≡ 0 → HappenedBy b s h g → IsLegal b h
+  pub legal-by : (h g : List FwExchange) → s 0 0 ≡ 0 → HappenedBy b s h g → IsLegal b h
       → IsLegal b g
-  legal-by [] [] tied boot told legal = tt
-  legal-by (e ∷ h) (f ∷ g) tied boot told legal = (
-    reply-by (values_of b h) (values_of b g) e f boot told.0 (values_of-by h g tied boot told.1)
+  legal-by [] [] boot told legal = tt
+  legal-by (e ∷ h) (f ∷ g) boot told legal = (
+    reply-by (values_of b h) (values_of b g) e f boot told.0 (values_of-by h g boot told.1)
         legal.0,
-    legal-by h g tied boot told.1 legal.1,
+    legal-by h g boot told.1 legal.1,
   )
-  legal-by h g tied boot told legal = absurd told
+  legal-by h g boot told legal = absurd told

@@ -1,24 +1,31 @@
 -- What a renumbering keeps: what is counted below a domain and over all cores, what is folded over
 -- the children of a node; and that each request asks of the renumbered cores what some other asks.
-use Rattle.psci_fw_laws.proofs.Words.{nat_tests, ◌==◌, ◌∙◌, ◌≡◌, ap, arith, below, BoardValue, Bool}
-use Rattle.psci_fw_laws.proofs.Words.{children_at, cores, first_child, least, list_all, list_any}
-use Rattle.psci_fw_laws.proofs.Words.{map, nat_lt, Node, node_by, nodes, range_with_len, suc}
-use Rattle.psci_fw_laws.proofs.Words.{sum_by, sym, ℕ, ◌+◌, ◌-◌, ◌<◌, ◌≤◌, [], cases_eq, cases_lt}
-use Rattle.psci_fw_laws.proofs.Words.{ChildLaws, eq-eqb, HasNode, height, if◌then◌else◌, inl, inr}
-use Rattle.psci_fw_laws.proofs.Words.{IsRenumbering, List, lt-ltb, ltb-true, ne_eqb, PathLaws, refl}
-use Rattle.psci_fw_laws.proofs.Words.{AsksBy, Core, core_by, core_of, node_of, None, Option}
-use Rattle.psci_fw_laws.proofs.Words.{option_map, same_Some, Some, WordLaws}
-use Rattle.psci_board.specs.Board.{up}
-use Rattle.psci_fw_laws.proofs.Folds.{Commutes, fold, alike}
-use Rattle.psci_fw_laws.proofs.Folds.{adds-commutes, ands-commutes, fold-filter, least-fold}
-use Rattle.psci_fw_laws.proofs.Folds.{lessens-commutes, list_all-fold, list_any-fold, ors-commutes}
-use Rattle.psci_fw_laws.proofs.Folds.{passing, passing-commutes, sum_by-fold}
-use Rattle.std.proofs.Common.{get_or}
+use Rattle.std.proofs.Common.{drop, get_or, sum}
+use Rattle.std.proofs.lemmas.Bool.{le-ltb}
 use Rattle.std.proofs.lemmas.List.{get_or_past}
-use Rattle.psci_fw_laws.proofs.Involutions.{fold-other, fold-window, is_within, is_within-false}
-use Rattle.psci_fw_laws.proofs.Involutions.{is_within-true, within}
 use Rattle.std.proofs.lemmas.Option.{none-some}
 use Rattle.psci_abi.specs.declared.request.Request.{Request}
+use Rattle.psci_board.specs.Board.{group_of, IsTree, parent, ParentLaws, place_above, size_below}
+use Rattle.psci_board.specs.Board.{up}
+use Rattle.psci_board.proofs.More.{sum-cons}
+use Rattle.psci_fw_laws.specs.Renumbered.{AreSiblings, AreTwins, core_beside, is_in_cluster}
+use Rattle.psci_fw_laws.specs.Renumbered.{swap_clusters, swap_cores}
+use Rattle.psci_fw_laws.proofs.Folds.{adds-commutes, alike, ands-commutes, cases_within, Commutes}
+use Rattle.psci_fw_laws.proofs.Folds.{fold, fold-filter, fold-other, fold-window, is_within}
+use Rattle.psci_fw_laws.proofs.Folds.{is_within-false, is_within-true, least-fold, lessens-commutes}
+use Rattle.psci_fw_laws.proofs.Folds.{list_all-fold, list_any-fold, ors-commutes, passing}
+use Rattle.psci_fw_laws.proofs.Folds.{passing-commutes, sum_by-fold, swap-back, swap-first}
+use Rattle.psci_fw_laws.proofs.Folds.{swap-other, swap-second, within}
+use Rattle.psci_fw_laws.proofs.Words.{[], ◌+◌, ◌-◌, ◌<◌, ◌==◌, ◌∙◌, ◌∷◌, ◌≡◌, ◌≤◌, ◌⊎◌, ap, arith}
+use Rattle.psci_fw_laws.proofs.Words.{AsksBy, below, BoardValue, Bool, cases_eq, cases_lt}
+use Rattle.psci_fw_laws.proofs.Words.{ChildLaws, children_at, Core, core_by, core_of, cores, eq-eqb}
+use Rattle.psci_fw_laws.proofs.Words.{false, first_child, HasNode, height, if◌then◌else◌, inl, inr}
+use Rattle.psci_fw_laws.proofs.Words.{IsBoard, IsRenumbering, least, length, List, list_all}
+use Rattle.psci_fw_laws.proofs.Words.{list_any, lt-ltb, ltb-true, map, nat_lt, nat_tests, ne_eqb}
+use Rattle.psci_fw_laws.proofs.Words.{Node, node_by, node_of, nodes, None, Option, option_map}
+use Rattle.psci_fw_laws.proofs.Words.{PathLaws, range_with_len, refl, same_Some, Some, suc, sum_by}
+use Rattle.psci_fw_laws.proofs.Words.{swap, sym, true, WordLaws, zero, ℕ}
+use Rattle.psci_board.proofs.Paths.{child_laws, path_laws}
 use Rattle.psci_abi.specs.declared.request.Request.TheVariants as requests
 
 -- What a renumbering keeps of a board.
@@ -178,15 +185,15 @@ children-by b s g z level p is paths child c h =
     (is.back level) (λ k i. node_moved b s level k is i)
     ∙ sym (children-fold child g z level p h)))
 
-pub renumbers : (b : BoardValue) (s : ℕ → ℕ → ℕ) → PathLaws b → ChildLaws b
-    → IsRenumbering b s → Renumbers b s
-renumbers b s paths child is = record {
+pub renumbers : (b : BoardValue) (s : ℕ → ℕ → ℕ) → IsBoard b → IsRenumbering b s
+    → Renumbers b s
+renumbers b s board is = record {
   back = is.back;
   inside = is.inside;
   above = is.above;
   all = λ g z c. fold-other (s 0) g z (cores b) c (is.back 0) (λ k i. node_moved b s 0 k is i);
   children = λ g z level p c. elim (cases_lt level (height b)) [
-    | inl h ↦ children-by b s g z level p is paths child c h
+    | inl h ↦ children-by b s g z level p is (path_laws b board) (child_laws b board) c h
     | inr h ↦ rw (childless b level (s (suc level) p) h, childless b level p h) refl
   ];
 }
@@ -254,3 +261,161 @@ told b s (requests.NodeHwState level target) is laws =
     let w = node_named b s target level (node_of b target level) is laws refl in
     (requests.NodeHwState level w.0, (w.0, w.1, refl))
 told b s r is laws = (r, refl)
+
+-- Twins -------------------------------------------------------------------------------------------
+-- To swap two cores of one cluster, or two clusters with as many cores, is a renumbering of the
+-- board.
+
+-- Siblings ----------------------------------------------------------------------------------------
+
+-- a function that says the same of both says the same of each core and its other number
+pub alike_both : {A : Type 0} (f : ℕ → A) (x y c : ℕ) → f x ≡ f y → f (swap x y c) ≡ f c
+alike_both f x y c e = grind arith
+
+-- cores of one cluster are below the same domains from there up
+meeting : (b : BoardValue) (x y level : ℕ) → PathLaws b → up b 1 x ≡ up b 1 y
+    → up b (suc level) x ≡ up b (suc level) y
+meeting b x y zero laws e = e
+meeting b x y (suc level) laws e = laws.joined x y (suc level) (meeting b x y level laws e)
+
+pub siblings : (b : BoardValue) (x y : ℕ) → PathLaws b → AreSiblings b x y
+    → IsRenumbering b (swap_cores x y)
+siblings b x y paths two = grind (arith, nat_tests, alike_both, nat_lt, lt-ltb, meeting)
+
+-- Twins -------------------------------------------------------------------------------------------
+
+-- What the proofs stand on.
+record Laws (b : BoardValue) : Type 0 where
+  tree : IsTree b.levels
+  low : 0 < height b
+  paths : PathLaws b
+  child : ChildLaws b
+  parents : ParentLaws b
+
+-- Cores of a cluster ----------------------------------------------------------------------------
+
+-- a core has its number among those of a cluster
+record In (b : BoardValue) (p c : ℕ) : Type 0 where
+  low : first_child b 1 p ≤ c
+  high : c < first_child b 1 p + children_at b 1 p
+
+cases_in : (b : BoardValue) (p c : ℕ) → In b p c ⊎ (In b p c → ⊥)
+cases_in b p c = grind (arith, nat_tests, cases_within)
+
+is_in : (b : BoardValue) (p c : ℕ) → In b p c → is_in_cluster b p c ≡ true
+is_in b p c h = grind arith
+
+is_out : (b : BoardValue) (p c : ℕ) → (In b p c → ⊥) → is_in_cluster b p c ≡ false
+is_out b p c out = grind (arith, is_within-false (first_child b 1 p) (children_at b 1 p) c)
+
+moved_first : (b : BoardValue) (p q c : ℕ) → In b p c
+    → swap_clusters b p q 0 c ≡ core_beside b p q c
+moved_first b p q c h = rw (is_in b p c h) refl
+
+moved_second : (b : BoardValue) (p q c : ℕ) → (In b p c → ⊥) → In b q c
+    → swap_clusters b p q 0 c ≡ core_beside b q p c
+moved_second b p q c out h = rw (is_out b p c out, is_in b q c h) refl
+
+moved_none : (b : BoardValue) (p q c : ℕ) → (In b p c → ⊥) → (In b q c → ⊥)
+    → swap_clusters b p q 0 c ≡ c
+moved_none b p q c out far = rw (is_out b p c out, is_out b q c far) refl
+
+-- What a swap does to each core: it moves to the other cluster, or stays.
+data Moves (b : BoardValue) (p q c d : ℕ) : Type 0 where
+  First : In b p c → In b q d → d ≡ core_beside b p q c → Moves b p q c d
+  Second : (In b p c → ⊥) → In b q c → In b p d → d ≡ core_beside b q p c → Moves b p q c d
+  Stays : (In b p c → ⊥) → (In b q c → ⊥) → d ≡ c → Moves b p q c d
+
+moves : (b : BoardValue) (p q c : ℕ) → children_at b 1 p ≡ children_at b 1 q
+    → Moves b p q c (swap_clusters b p q 0 c)
+moves b p q c same = grind (arith, nat_tests, cases_in, moved_first, moved_second, moved_none)
+
+-- the parent of the cluster of this place
+abbrev parent_at : BoardValue → ℕ → Option Node
+parent_at b place = parent b (record { level = 1; place = place })
+
+-- past the last core there is no cluster
+group_past : (w : List ℕ) (i : ℕ) → sum w ≤ i → length w ≤ group_of w i
+group_past [] i h = omega arith
+group_past (n ∷ ns) i h = grind (arith, nat_tests, le-ltb, sum-cons, group_past ns (i - n))
+
+cluster_past : (levels : List (List ℕ)) (c : ℕ) → IsTree levels → 0 < length levels
+    → size_below levels ≤ c → size_below (drop 1 levels) ≤ place_above levels 1 c
+cluster_past levels c tree low h = grind (arith, nat_tests, group_past)
+
+module _ {b : BoardValue} (laws : Laws b) where
+  inside : {p c : ℕ} → In b p c → c < cores b
+  inside {p} {c} h = child_inside laws.child 0 p c laws.low h.low h.high
+
+  up_in : {p c : ℕ} → In b p c → up b 1 c ≡ p
+  up_in {p} {c} h =
+      let here : up b 0 c ≡ c = laws.paths.core c in
+      laws.child.parent c 0 p (inside h) laws.low (omega arith) (omega arith)
+
+  up_past : {c : ℕ} → cores b ≤ c → nodes b 1 ≤ up b 1 c
+  unfolding up
+  up_past {c} h = cluster_past b.levels c laws.tree laws.low h
+
+  -- The other numbers -----------------------------------------------------------------------------
+
+  -- twice is not at all
+  back_from : {p q c d : ℕ} → Moves b p q c d → swap_clusters b p q 0 d ≡ c
+  back_from {p} {q} {c} {d} (First h i e) = elim (cases_in b p d) [
+    | inl j ↦
+        let same : p ≡ q = sym (up_in j) ∙ up_in i in
+        let first : first_child b 1 p ≡ first_child b 1 q = ap (first_child b 1) same in
+        let low : first_child b 1 p ≤ c = h.low in
+        moved_first b p q d j ∙ omega arith
+    | inr out ↦
+        let low : first_child b 1 p ≤ c = h.low in
+        moved_second b p q d out i ∙ omega arith
+  ]
+  back_from {p} {q} {c} {d} (Second out h i e) =
+      let low : first_child b 1 q ≤ c = h.low in
+      moved_first b p q d i ∙ omega arith
+  back_from {p} {q} {c} (Stays out far e) =
+      ap (swap_clusters b p q 0) e ∙ moved_none b p q c out far
+
+  -- a core of the board stays one
+  inside_from : {p q c d : ℕ} → Moves b p q c d → nat_lt d (cores b) ≡ nat_lt c (cores b)
+  inside_from {c = c} {d} (First h i e) =
+      lt-ltb d (cores b) (inside i) ∙ sym (lt-ltb c (cores b) (inside h))
+  inside_from {c = c} {d} (Second out h i e) =
+      lt-ltb d (cores b) (inside i) ∙ sym (lt-ltb c (cores b) (inside h))
+  inside_from {c = c} {d} (Stays out far e) = ap (λ (k : ℕ). nat_lt k (cores b)) e
+
+  -- the clusters have each other's place
+  clusters_from : {p q c d : ℕ} → AreTwins b p q → Moves b p q c d → up b 1 d ≡ swap p q (up b 1 c)
+  clusters_from {p} {q} {c} two moved =
+      grind (arith, nat_tests, swap-first, swap-other, swap-second, up_in, cases_lt, up_past)
+
+  -- cores whose clusters have one parent are below one domain of level 2
+  parents_meet : {x y : ℕ} → x < cores b → y < cores b
+      → parent b (record { level = 1; place = up b 1 x })
+      ≡ parent b (record { level = 1; place = up b 1 y }) → up b 2 x ≡ up b 2 y
+  parents_meet {x} {y} h i e = grind (arith, nat_tests, cases_lt, same_Some)
+
+  above_from : {p q c d : ℕ} (level : ℕ) → AreTwins b p q → Moves b p q c d
+      → up b (suc (suc level)) d ≡ up b (suc (suc level)) c
+  above_from {c = c} {d} zero two (First h i e) =
+      parents_meet (inside i) (inside h) (ap (parent_at b) (up_in i)
+      ∙ (sym two.parent ∙ ap (parent_at b) (sym (up_in h))))
+  above_from {c = c} {d} zero two (Second out h i e) =
+      parents_meet (inside i) (inside h) (ap (parent_at b) (up_in i)
+      ∙ (two.parent ∙ ap (parent_at b) (sym (up_in h))))
+  above_from {c = c} {d} zero two (Stays out far e) = ap (up b 2) e
+  above_from {c = c} {d} (suc level) two m =
+      laws.paths.joined d c (suc (suc level)) (above_from level two m)
+
+  above_by : (p q level c : ℕ) → AreTwins b p q
+      → up b level (swap_clusters b p q 0 c) ≡ swap_clusters b p q level (up b level c)
+  above_by p q zero c two =
+      laws.paths.core (swap_clusters b p q 0 c)
+      ∙ ap (swap_clusters b p q 0) (sym (laws.paths.core c))
+  above_by p q (suc zero) c two = clusters_from two (moves b p q c two.cores)
+  above_by p q (suc (suc level)) c two = above_from level two (moves b p q c two.cores)
+
+pub twins : (b : BoardValue) (p q : ℕ) → IsBoard b → PathLaws b → ChildLaws b → ParentLaws b
+    → AreTwins b p q → IsRenumbering b (swap_clusters b p q)
+twins b p q board paths child parents two =
+    grind (arith, inside, above_by, lt-ltb, alike_both, moves, inside_from, swap-back, back_from)

@@ -1,8 +1,9 @@
 -- Worked examples of renumberings: two cores of a cluster are swapped, or two clusters with as many
 -- cores. Values of a halting life 2 in OS-initiated mode, messages, calls, replies and histories of
 -- the other numbers; and what is none of these.
-use Rattle.std.proofs.Common.{◌≡◌, ◌==◌, ◌+◌, ◌*◌, ◌&&◌, ◌||◌, ℕ, zero, suc, true, false, List, []}
-use Rattle.std.proofs.Common.{◌∷◌, Option, None, Some, if◌then◌else◌, map, refl, arith, inl, inr}
+use Rattle.std.proofs.Common.{◌&&◌, ◌*◌, ◌+◌, ◌==◌, ◌||◌, ◌∷◌, ◌≡◌, [], arith, false}
+use Rattle.std.proofs.Common.{if◌then◌else◌, inl, inr, List, map, None, Option, refl, Some, suc}
+use Rattle.std.proofs.Common.{true, zero, ℕ}
 use Rattle.psci_abi.specs.declared.registers.Regs.{Regs}
 use Rattle.psci_abi.specs.declared.request.Request.{Request}
 use Rattle.psci_abi.specs.declared.request.Request.TheVariants.{AffinityInfo, CpuOff, CpuOn}
@@ -15,7 +16,7 @@ use Rattle.psci_messages.specs.declared.kind.Kind.TheVariants.{Down, Off}
 use Rattle.psci_messages.specs.declared.start.Cause.TheVariants.{Wake}
 use Rattle.psci_messages.specs.declared.start.Start as starts
 use Rattle.psci_messages.specs.declared.taken.Taken.TheVariants.{Used}
-use Rattle.psci_fw_spec.specs.Exchange.{FwExchange}
+use Rattle.psci_fw_spec.specs.Effects.{FwExchange}
 use Rattle.psci_fw_spec.specs.Phases as phases
 use Rattle.psci_fw_spec.specs.Values.{Values}
 use Rattle.psci_fw_spec.specs.declared.call.FwCall.TheVariants.{Enter, Smc, Take}
@@ -25,12 +26,12 @@ use Rattle.psci_fw_spec.specs.declared.outcome.Act.TheVariants as acts
 use Rattle.psci_fw_spec.specs.declared.reply.FwReply.{FwReply}
 use Rattle.psci_fw_spec.specs.declared.reply.FwReply.TheVariants.{Fault, Out, Taken}
 use Rattle.psci_fw_spec.specs.declared.status.Status.TheVariants as statuses
-use Rattle.psci_fw_laws.specs.Renumbered.{AreSiblings, AreTwins, AsksBy, CallsBy, HappenedBy}
-use Rattle.psci_fw_laws.specs.Renumbered.{IsRenumbering, SparesBoot, acknowledgement_by, message_by}
-use Rattle.psci_fw_laws.specs.Renumbered.{node_by, reply_by, slot_by, swap_clusters, swap_cores}
-use Rattle.psci_fw_laws.specs.Renumbered.{values_by}
+use Rattle.psci_fw_laws.specs.Renumbered.{acknowledgement_by, AreSiblings, AreTwins, AsksBy}
+use Rattle.psci_fw_laws.specs.Renumbered.{CallsBy, HappenedBy, IsRenumbering, message_by}
+use Rattle.psci_fw_laws.specs.Renumbered.{node_by, reply_by, slot_by, SparesBoot, swap_clusters}
+use Rattle.psci_fw_laws.specs.Renumbered.{swap_cores, values_by}
 use Rattle.psci_abi.proofs.Tables.{◌⇒◌, Gives}
-use Rattle.psci_fw_laws.proofs.Calls.{board, message, part}
+use Rattle.psci_fw_laws.proofs.Claiming.{board, message, part}
 
 -- Boards ------------------------------------------------------------------------------------------
 

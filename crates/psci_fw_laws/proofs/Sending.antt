@@ -1,15 +1,16 @@
 -- What is said of each message stays so, and what is outstanding, after each change.
-use Rattle.psci_fw_laws.proofs.Words.{nat_tests, ◌<◌, ◌∙◌, ◌∷◌, ◌≡◌, ◌≤◌, activity_of, ap, AreSent}
-use Rattle.psci_fw_laws.proofs.Words.{arith, asks, BoardValue, Bool, Down, IsSent, List}
-use Rattle.psci_fw_laws.proofs.Words.{MessageValue, Part, PathLaws, Pending, Phase, slice_get, Some}
-use Rattle.psci_fw_laws.proofs.Words.{suc, true, up, updated, zero, ℕ, ◌==◌, Acknowledge, AckValue}
-use Rattle.psci_fw_laws.proofs.Words.{changed, Clear, cond_both, eqb-false, eqb-true, false}
-use Rattle.psci_fw_laws.proofs.Words.{is_slot, is_system, IsOfCore, IsOfLife, left_by, None, OfCore}
-use Rattle.psci_fw_laws.proofs.Words.{OfSystem, Option, Put, Slot, slot_of, subst, sym}
+use Rattle.psci_fw_laws.proofs.Words.{◌<◌, ◌==◌, ◌∙◌, ◌∷◌, ◌≡◌, ◌≤◌, Acknowledge, AckValue}
+use Rattle.psci_fw_laws.proofs.Words.{activity_of, ap, AreSent, arith, asks, BoardValue, Bool}
+use Rattle.psci_fw_laws.proofs.Words.{changed, Clear, cond_both, Down, eqb-false, eqb-true}
+use Rattle.psci_fw_laws.proofs.Words.{false, is_slot, is_system, IsOfCore, IsOfLife, IsSent}
+use Rattle.psci_fw_laws.proofs.Words.{left_by, List, MessageValue, nat_tests, None, OfCore}
+use Rattle.psci_fw_laws.proofs.Words.{OfSystem, Option, Part, PathLaws, Pending, Phase, Put}
+use Rattle.psci_fw_laws.proofs.Words.{slice_get, Slot, slot_of, Some, subst, suc, sym, true, up}
+use Rattle.psci_fw_laws.proofs.Words.{updated, zero, ℕ}
 use Rattle.psci_messages.specs.declared.kind.Kind.TheVariants.{Start}
-use Rattle.psci_fw_laws.proofs.Parts.{updated_at, updated_there}
-use Rattle.psci_fw_laws.proofs.Sums.{known_gap, known_le}
-use Rattle.psci_fw_laws.specs.Outstanding.{AreOutstanding}
+use Rattle.psci_fw_laws.proofs.Claiming.{updated_at, updated_there}
+use Rattle.psci_fw_laws.proofs.Refusing.{known_gap, known_le}
+use Rattle.psci_fw_laws.specs.Messages.{AreOutstanding}
 
 -- What a message with the known start of its core as its number says of another phase of the core.
 pub record IsFit (phase : Phase) (m : MessageValue) : Type 0 where

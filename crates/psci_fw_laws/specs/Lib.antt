@@ -1,17 +1,6 @@
-pub mod Allowed
-pub mod Asked
-pub mod Beside
-pub mod CarriedOut
-pub mod Claims
-pub mod Entered
-pub mod Granted
-pub mod Kept
-pub mod KnownBelow
-pub mod Live
-pub mod Messages
-pub mod Outstanding
 pub mod Renumbered
-pub mod Within
+pub mod Beside
+pub mod Messages
 pub use Rattle.psci_fw_spec.specs.psci_abi
 pub use Rattle.psci_board.specs as psci_board
 pub use Rattle.psci_messages.specs as psci_messages

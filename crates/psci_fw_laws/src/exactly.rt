@@ -3,9 +3,8 @@
 
 ghost use Rattle.std.specs.Prelude.{◌≡◌, ◌↔◌, ◌⊎◌, ◌<◌, ℕ, true, false, List, Ok, Err};
 ghost use Rattle.psci_board.specs.Board.{BoardValue, IsBoard, cores};
-ghost use Rattle.psci_board.specs.declared.node.Node.{Node};
-ghost use Rattle.psci_messages.specs.Claim.{own_claims};
-ghost use Rattle.psci_messages.specs.LastCore.{last_core_check};
+ghost use Rattle.psci_board.specs.declared.draft.Node.{Node};
+ghost use Rattle.psci_messages.specs.Claim.{last_core_check, own_claims};
 ghost use Rattle.psci_messages.specs.View.{PowerView};
 ghost use Rattle.psci_messages.specs.declared.osi.Osi.TheVariants.{Denied, Invalid};
 ghost use Rattle.psci_messages.specs.Message.{AckValue};
@@ -14,9 +13,7 @@ ghost use Rattle.psci_fw_spec.specs.NodeHwState.{node_hw};
 ghost use Rattle.psci_fw_spec.specs.Values.{Values};
 ghost use Rattle.psci_fw_spec.specs.declared.hw.Hw.TheVariants.{Off, On, Standby};
 ghost use Rattle.psci_fw_laws.specs.Beside.{AreAwake, HasSleeper, IsInTheWay};
-ghost use Rattle.psci_fw_laws.specs.CarriedOut.{IsCarriedOut};
-
-use psci_board::{law_children, law_paths};
+ghost use Rattle.psci_fw_laws.specs.Messages.{IsCarriedOut};
 
 /// An OS-initiated request is accepted where nothing is in its way: where each domain beside the
 /// caller's path was granted what is asked of its parent. It is refused as invalid exactly where
@@ -31,10 +28,7 @@ pub fn law_refused_exactly()
     ensures denied { (b : BoardValue) (v : PowerView) (core : ℕ) (ask : List ℕ) → IsBoard b
         → core < cores b
         → (last_core_check b v core ask ≡ Err Denied) ↔ AreAwake b v core ask }
-{
-    law_paths();
-    law_children();
-}
+{}
 
 /// An acknowledgement that was taken confirms the last claim on a domain exactly where it says that
 /// this was carried out, and takes no confirmation away.

@@ -2,18 +2,12 @@
 
 ghost use Rattle.std.specs.Prelude.{◌≡◌, List, ◌∷◌, ◌++◌};
 ghost use Rattle.psci_board.specs.Board.{BoardValue, IsBoard};
-ghost use Rattle.psci_fw_spec.specs.After.{change};
-ghost use Rattle.psci_fw_spec.specs.Exchange.{FwExchange, effect};
+ghost use Rattle.psci_fw_spec.specs.Effects.{change, effect, FwExchange, listed, sent};
+ghost use Rattle.psci_fw_spec.specs.Effects.{sent_messages};
 ghost use Rattle.psci_fw_spec.specs.History.{values_of};
 ghost use Rattle.psci_fw_spec.specs.Legal.{IsLegal};
-ghost use Rattle.psci_fw_spec.specs.Said.{listed, sent};
-ghost use Rattle.psci_fw_spec.specs.Sent.{sent_messages};
-ghost use Rattle.psci_fw_laws.specs.Allowed.{IsAllowed};
-ghost use Rattle.psci_fw_laws.specs.Kept.{Holds};
-
-use psci_board::{law_paths, law_spans, law_words};
-use psci_fw_spec::{law_caller, law_invariant, law_stops, law_values};
-use psci_messages::{law_below, law_claims, law_last_core, law_parts, law_platform};
+ghost use Rattle.psci_fw_laws.specs.Renumbered.{IsAllowed};
+ghost use Rattle.psci_fw_laws.specs.Messages.{Holds};
 
 /// What the firmware keeps true of its values and of all messages that it sent, after every legal
 /// history, and what the effect of each legal reply says beside the values before it.
@@ -27,17 +21,4 @@ pub fn law_kept()
         → values_of b (e ∷ h) ≡ change b (effect b e) (values_of b h) }
     ensures sent { (b : BoardValue) (e : FwExchange) (h : List FwExchange)
         → sent_messages b (e ∷ h) ≡ listed (sent (effect b e)) ++ sent_messages b h }
-{
-    law_paths();
-    law_spans();
-    law_words();
-    law_below();
-    law_claims();
-    law_platform();
-    law_last_core();
-    law_parts();
-    law_values();
-    law_invariant();
-    law_stops();
-    law_caller();
-}
+{}

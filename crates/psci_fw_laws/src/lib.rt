@@ -21,9 +21,6 @@ mod renumbered;
 
 pub use exactly::{law_confirmed_exactly, law_hw_exactly, law_refused_exactly};
 pub use kept::law_kept;
-pub use laws::{
-    law_asked, law_claimed, law_entered, law_granted, law_known_below, law_live, law_messages,
-    law_new_life, law_numbers, law_openings, law_outstanding,
-};
-pub use psci_fw_spec::{law_caller, law_invariant, law_power_on, law_values};
+pub use laws::{law_asked, law_claimed, law_granted, law_new_life};
+pub use psci_fw_spec::{law_invariant, law_power_on, law_values};
 pub use renumbered::{law_no_core_is_special, law_renumberings};

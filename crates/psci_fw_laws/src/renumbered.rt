@@ -5,20 +5,14 @@ ghost use Rattle.psci_abi.specs.declared.request.Request.{Request};
 ghost use Rattle.psci_board.specs.Board.{BoardValue, IsBoard};
 ghost use Rattle.psci_fw_spec.specs.declared.call.FwCall.{FwCall};
 ghost use Rattle.psci_fw_spec.specs.declared.reply.FwReply.{FwReply};
-ghost use Rattle.psci_fw_spec.specs.After.{after};
-ghost use Rattle.psci_fw_spec.specs.Answer.{answer};
-ghost use Rattle.psci_fw_spec.specs.Calls.{outcome_of};
-ghost use Rattle.psci_fw_spec.specs.Exchange.{FwExchange};
+ghost use Rattle.psci_fw_spec.specs.Effects.{after, FwExchange};
+ghost use Rattle.psci_fw_spec.specs.Answer.{answer, outcome_of};
 ghost use Rattle.psci_fw_spec.specs.History.{values_of};
 ghost use Rattle.psci_fw_spec.specs.Legal.{IsLegal};
 ghost use Rattle.psci_fw_spec.specs.Values.{Values};
-ghost use Rattle.psci_fw_laws.specs.Renumbered.{AreSiblings, AreTwins, AsksBy, CallsBy};
-ghost use Rattle.psci_fw_laws.specs.Renumbered.{HappenedBy, IsRenumbering, SparesBoot};
-ghost use Rattle.psci_fw_laws.specs.Renumbered.{outcome_by, reply_by, swap_clusters, swap_cores};
-ghost use Rattle.psci_fw_laws.specs.Renumbered.{values_by};
-
-use psci_board::{law_children, law_parents, law_paths, law_words};
-use psci_fw_spec::law_values;
+ghost use Rattle.psci_fw_laws.specs.Renumbered.{AreSiblings, AreTwins, AsksBy, CallsBy, HappenedBy};
+ghost use Rattle.psci_fw_laws.specs.Renumbered.{IsRenumbering, outcome_by, reply_by, SparesBoot};
+ghost use Rattle.psci_fw_laws.specs.Renumbered.{swap_clusters, swap_cores, values_by};
 
 /// No core is special: with the cores renumbered, in the values and in the call, each call is
 /// answered the same, and leaves the same values, of the other numbers. Only a life's start knows
@@ -45,11 +39,7 @@ pub fn law_no_core_is_special()
         → values_of b g ≡ values_by s (values_of b h) }
     ensures legal { (b : BoardValue) (s : ℕ → ℕ → ℕ) (h g : List FwExchange) → IsBoard b
         → IsRenumbering b s → s 0 0 ≡ 0 → HappenedBy b s h g → IsLegal b h → IsLegal b g }
-{
-    law_paths();
-    law_children();
-    law_values();
-}
+{}
 
 /// Cores may be renumbered so: what is asked can be asked of the other numbers, and cores that are
 /// siblings, or the cores of two clusters, may be swapped.
@@ -63,9 +53,4 @@ pub fn law_renumberings()
     // And two clusters with as many cores and one parent, with their cores.
     ensures twins { (b : BoardValue) (p q : ℕ) → IsBoard b → AreTwins b p q
         → IsRenumbering b (swap_clusters b p q) }
-{
-    law_paths();
-    law_children();
-    law_parents();
-    law_words();
-}
+{}

@@ -3,15 +3,15 @@
 use Rattle.std.proofs.Common.{◌∷◌, ◌≡◌, [], false, List, map, refl, ℕ}
 use Rattle.std.specs.Prelude.{slice_index_or}
 use Rattle.psci_fw_spec.specs.declared.status.Status.{Status}
-use Rattle.psci_fw_spec.specs.AffinityInfo.{node_status, status_code, status_over}
-use Rattle.psci_fw_spec.proofs.Steps.{◌⇒◌, affinity, AreAnsweredOn, board, boot, boots, computing}
-use Rattle.psci_fw_spec.proofs.Steps.{enter_boot, enter_on, enter_reset, enter_wake, error}
-use Rattle.psci_fw_spec.proofs.Steps.{history_of, message, off, on, on_3, one_cluster, part, starts}
-use Rattle.psci_fw_spec.proofs.Steps.{Step, suspend, system_off, system_reset, take, take_down}
-use Rattle.psci_fw_spec.proofs.Steps.{tall, uneven, value, version}
+use Rattle.psci_fw_spec.specs.PowerCalls.{node_status, status_code, status_over}
+use Rattle.psci_fw_spec.proofs.Steps.{◌⇒◌, affinity, AreAnsweredOn, board, boot, boots}
+use Rattle.psci_fw_spec.proofs.Steps.{computing, enter_boot, enter_on, enter_reset, enter_wake}
+use Rattle.psci_fw_spec.proofs.Steps.{error, history_of, message, off, on, on_3, one_cluster}
+use Rattle.psci_fw_spec.proofs.Steps.{part, starts, Step, suspend, system_off, system_reset}
+use Rattle.psci_fw_spec.proofs.Steps.{take, take_down, tall, uneven, value, version}
 use Rattle.psci_board.proofs.Tables.{Gives}
 use Rattle.psci_fw_spec.specs.declared.status.Status.TheVariants.{Off, On, Pending}
-use Rattle.psci_fw_spec.specs.Sent.{sent_messages}
+use Rattle.psci_fw_spec.specs.Effects.{sent_messages}
 use Rattle.psci_fw_spec.specs.Statuses.{statuses}
 use Rattle.psci_fw_spec.specs.declared.status.Status.TheVariants as statuses
 use Rattle.psci_messages.specs.declared.kind.Kind.TheVariants as kinds

@@ -1,31 +1,124 @@
 -- Changes that claim nothing leave values such as the firmware keeps, and so does that the suspend
 -- mode is set.
 use Rattle.std.specs.List.{list_all, range_with_len}
-use Rattle.psci_fw_spec.proofs.Words.{◌+◌, ◌<◌, ◌==◌, ◌||◌, ◌∙◌, ◌≡◌, ◌≤◌, ◌⊎◌, AckValue}
-use Rattle.psci_fw_spec.proofs.Words.{activity_of, agrees, all_others, ap, AreAwake, AreValues}
-use Rattle.psci_fw_spec.proofs.Words.{arith, Away, BoardValue, Bool, cases_eq, change, cleared}
-use Rattle.psci_fw_spec.proofs.Words.{cond, cores, denied, false, GoesOn, height, if◌then◌else◌}
-use Rattle.psci_fw_spec.proofs.Words.{in_life, inl, inr, int_eq, is_expected, is_some}
-use Rattle.psci_fw_spec.proofs.Words.{IsPhase, known, may_set, MessageValue, mode_asked}
-use Rattle.psci_fw_spec.proofs.Words.{mode_effect, nat_tests, None, Option, OsInitiated, Pending}
-use Rattle.psci_fw_spec.proofs.Words.{Phase, Platform, PowerOn, refl, Running, SetsMode}
-use Rattle.psci_fw_spec.proofs.Words.{Some, Start, subst, suc, success, SuspendMode, sym}
-use Rattle.psci_fw_spec.proofs.Words.{target, true, true≢false, up, updated, Values, with_arrival}
-use Rattle.psci_fw_spec.proofs.Words.{with_pending, with_phase, zero, ℕ}
+use Rattle.psci_state.specs.Cores.{is_away as is_core_away}
 use Rattle.psci_state.specs.declared.cores.Activity.TheVariants.{Active}
+use Rattle.psci_fw_spec.specs.Effects.{after}
+use Rattle.psci_fw_spec.specs.Answer.{answer, enter_outcome, outcome_of}
 use Rattle.psci_fw_spec.specs.Changes.{with_acknowledgement, with_halt, with_mode, with_running}
-use Rattle.psci_fw_spec.specs.Views.{view}
-use Rattle.psci_fw_spec.proofs.Asked.{apart, asked_running, asks_at, IsAllOff, IsLeast, Known}
-use Rattle.psci_fw_spec.proofs.Granting.{AreBounded, AreGranted, awake_from, both_updated}
-use Rattle.psci_fw_spec.proofs.Granting.{bounded_cleared, bounded_left, bounded_of, ChangedAt}
-use Rattle.psci_fw_spec.proofs.Granting.{granted_cleared, granted_of, left_else, none_granted}
+use Rattle.psci_fw_spec.specs.PowerCalls.{is_mode, target_of}
+use Rattle.psci_fw_spec.specs.Values.{IsNamed}
+use Rattle.psci_fw_spec.specs.Phases.{is_away}
+use Rattle.psci_fw_spec.specs.Invariant.{view}
+use Rattle.psci_fw_spec.proofs.Granting.{apart, AreBounded, AreGranted, asked_running, asks_at}
+use Rattle.psci_fw_spec.proofs.Granting.{awake_from, both_updated, bounded_cleared, bounded_left}
+use Rattle.psci_fw_spec.proofs.Granting.{bounded_of, ChangedAt, granted_cleared, granted_of}
+use Rattle.psci_fw_spec.proofs.Granting.{IsAllOff, IsLeast, Known, left_else, none_granted}
 use Rattle.psci_fw_spec.proofs.Granting.{ran_asks, same_phases, updated_at, updated_each}
 use Rattle.psci_fw_spec.proofs.Granting.{updated_else}
-use Rattle.psci_state.specs.Cores.{is_away as is_core_away}
-use Rattle.psci_fw_spec.specs.Phases.{is_away}
-use Rattle.psci_fw_spec.specs.SuspendMode.{is_mode}
 use Rattle.psci_fw_spec.proofs.Wishes.{off_asks}
+use Rattle.psci_fw_spec.proofs.Words.{◌+◌, ◌<◌, ◌==◌, ◌||◌, ◌∙◌, ◌≡◌, ◌≤◌, ◌⊎◌, AckValue, Act}
+use Rattle.psci_fw_spec.proofs.Words.{activity_of, agrees, all_others, ap, AreAwake, AreValues}
+use Rattle.psci_fw_spec.proofs.Words.{arith, AsksOn, Away, BoardValue, Bool, cases_eq, change}
+use Rattle.psci_fw_spec.proofs.Words.{cleared, cond, core_of, cores, denied, effect_of, Enter}
+use Rattle.psci_fw_spec.proofs.Words.{false, function_effect, FwReply, GoesOn, height}
+use Rattle.psci_fw_spec.proofs.Words.{if◌then◌else◌, in_life, inl, inr, int_eq, is_expected}
+use Rattle.psci_fw_spec.proofs.Words.{is_some, IsPhase, known, may_set, MessageValue, mode_asked}
+use Rattle.psci_fw_spec.proofs.Words.{mode_effect, nat_tests, None, Off, Option, OsInitiated, Out}
+use Rattle.psci_fw_spec.proofs.Words.{Outcome, Pending, Phase, Platform, PowerOn, refl, Regs}
+use Rattle.psci_fw_spec.proofs.Words.{Request, request_of, Running, SetsMode, Smc, Some, Start}
+use Rattle.psci_fw_spec.proofs.Words.{subst, suc, success, SuspendMode, sym, target, true}
+use Rattle.psci_fw_spec.proofs.Words.{true≢false, up, updated, Values, with_arrival, with_pending}
+use Rattle.psci_fw_spec.proofs.Words.{with_phase, zero, ℕ}
+use Rattle.psci_abi.specs.declared.request.Request.TheVariants as requests
+use Rattle.psci_messages.specs.declared.kind.Kind.TheVariants as kinds
 use Rattle.psci_fw_spec.specs.declared.status.Status.TheVariants as statuses
+
+-- Callers -----------------------------------------------------------------------------------------
+-- What a running caller is answered, and what that leaves of it; whom an accepted CPU_ON asked on;
+-- a core that enters and goes on, and the first start of all; and what messages name.
+
+-- CPU_ONs that are accepted -------------------------------------------------------------------
+
+-- A CPU_ON that was accepted: what was asked, and that its target was off.
+pub record WasAsked (b : BoardValue) (v : Values) (r : Request) (asked : PowerOn) : Type 0 where
+  pub word : ℕ
+  pub request : r ≡ requests.CpuOn word asked.opening.address asked.opening.context
+  pub core : core_of b word ≡ Some asked.message.core
+  pub off : v.status (target asked) ≡ Off
+
+-- a request that is no CPU_ON
+abbrev IsOther : Request → Type 0
+IsOther (requests.CpuOn word entry context) = ⊥
+IsOther r = Unit {0}
+
+module _ (b : BoardValue) (v : Values) (c : ℕ) where
+  other_asks_none : (r : Request) (act : Act) (m : Option MessageValue) (caller : ℕ)
+      (asked : PowerOn) → IsOther r → function_effect b c r act m ≡ AsksOn caller asked → ⊥
+  other_asks_none r act m caller asked other e = grind arith
+
+  asked_by : (caller : ℕ) (r : Request) (asked : PowerOn) → let o = outcome_of b v c r in
+      function_effect b c r o.act o.message ≡ AsksOn caller asked → WasAsked b v r asked
+  unfolding outcome_of target_of
+  asked_by caller (requests.CpuOn word entry context) asked e =
+      record { word = word; request = grind arith; core = grind arith; off = grind arith }
+  asked_by caller r asked e =
+      let o = outcome_of b v c r in
+      absurd (other_asks_none r o.act o.message caller asked tt e)
+
+  pub was_asked : (caller : ℕ) (regs : Regs) (asked : PowerOn)
+      → effect_of b c (Smc regs) (answer b v c (Smc regs)) ≡ AsksOn caller asked
+      → WasAsked b v (request_of regs) asked
+  unfolding answer
+  was_asked caller regs asked e = asked_by caller (request_of regs) asked (grind arith)
+
+  -- Running callers -----------------------------------------------------------------------------
+
+  same_phase : (k : ℕ) → v.phase c ≡ Running → (change b (GoesOn c) v).phase k ≡ v.phase k
+  same_phase k runs = grind (arith, nat_tests)
+
+  pub goes_on_same : v.phase c ≡ Running → change b (GoesOn c) v ≡ v
+  goes_on_same runs = λ i. record v { phase = λ k. same_phase k runs i }
+
+  pending_phase : (asked : PowerOn) (k : ℕ) → v.phase c ≡ Running
+      → (change b (AsksOn c asked) v).phase k ≡ (with_pending b asked v).phase k
+  pending_phase asked k runs = grind (arith, nat_tests)
+
+  pub asks_on_same : (asked : PowerOn) → v.phase c ≡ Running
+      → change b (AsksOn c asked) v ≡ with_pending b asked v
+  asks_on_same asked runs =
+      λ i. record (with_pending b asked v) { phase = λ k. pending_phase asked k runs i }
+
+  life_stays : (r : Request) (act : Act) (m : Option MessageValue)
+      → (change b (function_effect b c r act m) v).life ≡ v.life
+  life_stays r act m = grind arith
+
+  pub same_life : (regs : Regs) (reply : FwReply) → (after b c (Smc regs) reply v).life ≡ v.life
+  unfolding after
+  same_life regs reply = grind (arith, life_stays)
+
+  -- Entries -------------------------------------------------------------------------------------
+
+  pub enters_life : (s : Start) (o : Outcome) → (after b c (Enter s) (Out o) v).life ≡ s.life
+  unfolding after
+  enters_life s o = grind (arith, nat_tests)
+
+  -- Messages ------------------------------------------------------------------------------------
+
+  pub named : (r : Request) (m : MessageValue) → (outcome_of b v c r).message ≡ Some m
+      → IsNamed b v c r m
+  unfolding outcome_of target_of
+  named (requests.CpuSuspend state entry context) m e = grind arith
+  named (requests.CpuOn word entry context) m e = grind arith
+  named (requests.SystemSuspend entry context) m e = grind arith
+  named r m e = grind arith
+
+  pub park_named : (s : Start) (m : MessageValue) → (enter_outcome b v c s).message ≡ Some m
+      → (m.kind ≡ kinds.Down) × (m.core.number ≡ c) × (m.life ≡ s.life) × (m.number ≡ s.number)
+  unfolding enter_outcome
+  park_named s m e = grind (arith, nat_tests)
+
+-- Changing ----------------------------------------------------------------------------------------
 
 -- that a running or pending core goes on changes nothing
 pub kept_on : (b : BoardValue) (w : Values) (c : ℕ) → (w.phase c ≡ Pending) ⊎ (w.phase c ≡ Running)

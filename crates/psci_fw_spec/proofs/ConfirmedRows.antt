@@ -4,15 +4,14 @@ use Rattle.std.proofs.Common.{◌++◌, ◌∷◌, Bool, List, [], false, map, r
 use Rattle.psci_board.proofs.Tables.{◌⇒◌, Gives, Row}
 use Rattle.psci_board.specs.Board.{BoardValue}
 use Rattle.psci_messages.specs.declared.kind.Kind.TheVariants as kinds
-use Rattle.psci_fw_spec.specs.After.{after}
-use Rattle.psci_fw_spec.specs.Exchange.{FwExchange}
+use Rattle.psci_fw_spec.specs.Effects.{after, FwExchange}
 use Rattle.psci_fw_spec.specs.History.{values_of}
-use Rattle.psci_fw_spec.specs.Lives.{first_confirmed, start_of_life}
+use Rattle.psci_fw_spec.specs.Changes.{first_confirmed, start_of_life}
 use Rattle.psci_fw_spec.specs.Values.{Values}
-use Rattle.psci_fw_spec.proofs.Steps.{Step, board, boot, computing, enter_boot, enter_on}
-use Rattle.psci_fw_spec.proofs.Steps.{enter_wake, history_of, off, on, on_3, one_core}
-use Rattle.psci_fw_spec.proofs.Steps.{part, set_mode, starts, stops, suspend, system_reset}
-use Rattle.psci_fw_spec.proofs.Steps.{system_suspend, take, take_down, tall, uneven, with_entry}
+use Rattle.psci_fw_spec.proofs.Steps.{board, boot, computing, enter_boot, enter_on, enter_wake}
+use Rattle.psci_fw_spec.proofs.Steps.{history_of, off, on, on_3, one_core, part, set_mode}
+use Rattle.psci_fw_spec.proofs.Steps.{starts, Step, stops, suspend, system_reset, system_suspend}
+use Rattle.psci_fw_spec.proofs.Steps.{take, take_down, tall, uneven, with_entry}
 
 -- a group of a cluster of two cores and a cluster of one, and a group of one core: 0x000, 0x001;
 -- 0x100; 0x10000

@@ -1,16 +1,15 @@
 -- What an answer depends on, and that it depends on nothing else.
 use Rattle.psci_fw_spec.proofs.Words.{◌∙◌, ◌≡◌, all_others, ap, arith, Away, BoardValue, Core}
 use Rattle.psci_fw_spec.proofs.Words.{core_of, function_outcome, is_off_status, known}
-use Rattle.psci_fw_spec.proofs.Words.{leaving_claims, life, List, may_set, message_for, nat_tests}
-use Rattle.psci_fw_spec.proofs.Words.{OsInitiated, phase, Platform, refl, Some, Start, status}
-use Rattle.psci_fw_spec.proofs.Words.{stops_with, suspend_claims, SuspendMode, Values, with_phase}
-use Rattle.psci_fw_spec.proofs.Words.{ℕ}
+use Rattle.psci_fw_spec.proofs.Words.{leaving_claims, life, List, may_set, message_for}
+use Rattle.psci_fw_spec.proofs.Words.{nat_tests, OsInitiated, phase, Platform, refl, Some, Start}
+use Rattle.psci_fw_spec.proofs.Words.{status, stops_with, suspend_claims, SuspendMode, Values}
+use Rattle.psci_fw_spec.proofs.Words.{with_phase, ℕ}
 use Rattle.psci_messages.specs.Claim.{claims_of}
 use Rattle.psci_messages.specs.View.{generation, is_all_away, least_ask}
-use Rattle.psci_fw_spec.specs.Claims.{off_parts, suspend_parts}
-use Rattle.psci_fw_spec.specs.CpuOn.{target_of}
-use Rattle.psci_fw_spec.specs.Entering.{enter_outcome}
-use Rattle.psci_fw_spec.specs.Views.{view}
+use Rattle.psci_fw_spec.specs.PowerCalls.{off_parts, suspend_parts, target_of}
+use Rattle.psci_fw_spec.specs.Answer.{enter_outcome}
+use Rattle.psci_fw_spec.specs.Invariant.{view}
 use Rattle.psci_abi.specs.declared.request.Request.TheVariants as requests
 use Rattle.psci_messages.specs.declared.kind.Kind.TheVariants as kinds
 

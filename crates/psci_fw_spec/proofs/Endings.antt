@@ -1,12 +1,12 @@
 -- How a function ends: it returns a code, or stops its caller and sends a message, and an accepted
 -- CPU_ON returns SUCCESS and sends a Start. What each of these ways has, each outcome has.
 use Rattle.psci_fw_spec.proofs.Words.{◌≡◌, arith, BadState, BoardValue, Code, deepest_of, false}
-use Rattle.psci_fw_spec.proofs.Words.{function_outcome, height, List, message_for, MessageValue, Ok}
-use Rattle.psci_fw_spec.proofs.Words.{Outcome, Part, Request, Result, returns, Some, stops}
+use Rattle.psci_fw_spec.proofs.Words.{function_outcome, height, List, message_for, MessageValue}
+use Rattle.psci_fw_spec.proofs.Words.{Ok, Outcome, Part, Request, Result, returns, Some, stops}
 use Rattle.psci_fw_spec.proofs.Words.{stops_with, success, suspend_asked, suspend_parts}
-use Rattle.psci_fw_spec.proofs.Words.{system_message, system_reset2, system_suspend, true, Values}
-use Rattle.psci_fw_spec.proofs.Words.{ℕ}
-use Rattle.psci_fw_spec.specs.Calls.{outcome_of}
+use Rattle.psci_fw_spec.proofs.Words.{system_message, system_reset2, system_suspend, true}
+use Rattle.psci_fw_spec.proofs.Words.{Values, ℕ}
+use Rattle.psci_fw_spec.specs.Answer.{outcome_of}
 use Rattle.psci_abi.specs.declared.request.Request.TheVariants as requests
 use Rattle.psci_messages.specs.declared.kind.Kind.TheVariants as kinds
 use Rattle.psci_fw_spec.specs.declared.outcome.Act.TheVariants as acts

@@ -4,7 +4,7 @@ use Rattle.std.specs.Prelude.{◌==◌, if◌then◌else◌}
 use Rattle.psci_board.proofs.Tables.{◌⇒◌, Gives}
 use Rattle.psci_fw_spec.specs.declared.status.Status.TheVariants as statuses
 use Rattle.psci_fw_spec.specs.Invariant.{AreValues, agrees, is_expected}
-use Rattle.psci_fw_spec.specs.Lives.{start_of_life}
+use Rattle.psci_fw_spec.specs.Changes.{start_of_life}
 use Rattle.psci_fw_spec.specs.Phases.{Away, Phase, Running, Suspended}
 use Rattle.psci_fw_spec.specs.Phases as phases
 use Rattle.psci_fw_spec.specs.Values.{Values}

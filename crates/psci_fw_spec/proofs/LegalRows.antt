@@ -1,6 +1,6 @@
 -- Worked examples: a history that is legal, and for each way to be wrong one that is not.
-use Rattle.std.proofs.Common.{◌∷◌, ◌≡◌, Bool, List, Some, [], ap, false, map, negsuc, pos}
-use Rattle.std.proofs.Common.{refl, true, ℕ}
+use Rattle.std.proofs.Common.{◌∷◌, ◌≡◌, [], ap, Bool, false, List, map, negsuc, pos, refl, Some}
+use Rattle.std.proofs.Common.{true, ℕ}
 use Rattle.std.specs.Prelude.{flat_map}
 use Rattle.psci_board.specs.Board.{BoardValue}
 use Rattle.psci_messages.specs.declared.part.Part.{Part}
@@ -11,14 +11,13 @@ use Rattle.psci_fw_spec.specs.declared.fault.FwFault.TheVariants.{OldStart}
 use Rattle.psci_fw_spec.specs.declared.outcome.Act.TheVariants as acts
 use Rattle.psci_fw_spec.specs.declared.reply.FwReply.{FwReply}
 use Rattle.psci_fw_spec.specs.declared.reply.FwReply.TheVariants.{Out}
-use Rattle.psci_fw_spec.specs.Exchange.{FwExchange}
-use Rattle.psci_fw_spec.specs.Legal.{IsLegal, is_legal, legal_reply}
-use Rattle.psci_fw_spec.specs.Same.{fault_code, is_same_reply}
-use Rattle.psci_fw_spec.proofs.Steps.{◌⇒◌, Row, Step, board, boot, boots, code, computing}
-use Rattle.psci_fw_spec.proofs.Steps.{enter_on, enter_wake, goes_on_3, goes_to, history_from}
-use Rattle.psci_fw_spec.proofs.Steps.{message, old, on_3, part, refused, resumes, starts, stops}
-use Rattle.psci_fw_spec.proofs.Steps.{stops_by, stops_still, suspend, system_off, take, take_down}
-use Rattle.psci_fw_spec.proofs.Steps.{used, value, version, with_entry}
+use Rattle.psci_fw_spec.specs.Effects.{FwExchange}
+use Rattle.psci_fw_spec.specs.Legal.{fault_code, is_legal, is_same_reply, IsLegal, legal_reply}
+use Rattle.psci_fw_spec.proofs.Steps.{◌⇒◌, board, boot, boots, code, computing, enter_on}
+use Rattle.psci_fw_spec.proofs.Steps.{enter_wake, goes_on_3, goes_to, history_from, message, old}
+use Rattle.psci_fw_spec.proofs.Steps.{on_3, part, refused, resumes, Row, starts, Step, stops}
+use Rattle.psci_fw_spec.proofs.Steps.{stops_by, stops_still, suspend, system_off, take}
+use Rattle.psci_fw_spec.proofs.Steps.{take_down, used, value, version, with_entry}
 
 -- the history of calls that are answered as the definitions say is legal, whatever the calls
 legal_from : (b : BoardValue) (h : List FwExchange) (steps : List Step) → IsLegal b h

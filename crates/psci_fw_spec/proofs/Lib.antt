@@ -1,18 +1,15 @@
+pub mod Always
 mod AffinityRows
-mod Answered
-mod Asked
-mod Callers
-mod Changing
+pub mod Entered
+mod Granting
+pub mod Changing
 mod ConfirmedRows
 mod Depending
 pub mod Endings
-mod Entered
-mod Granting
 mod InvariantRows
 mod LegalRows
 mod MessageRows
-mod OneMore
+pub mod Stopping
 mod Steps
-mod Stopping
 mod Wishes
 pub mod Words

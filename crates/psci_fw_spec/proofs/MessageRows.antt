@@ -3,12 +3,12 @@
 use Rattle.std.proofs.Common.{◌∷◌, ◌≡◌, [], false, map, negsuc, refl, Some, true, ℕ}
 use Rattle.psci_abi.specs.declared.request.Request.TheVariants.{CpuOff, CpuOn}
 use Rattle.psci_board.specs.Board.{core_of}
-use Rattle.psci_board.specs.declared.node.Core.{Core}
+use Rattle.psci_board.specs.declared.draft.Core.{Core}
 use Rattle.psci_messages.specs.Message.{MessageValue}
 use Rattle.psci_messages.specs.declared.kind.Kind.TheVariants.{Down, Off, Start}
-use Rattle.psci_fw_spec.specs.Lives.{start_of_life}
-use Rattle.psci_fw_spec.specs.Named.{IsNamed}
-use Rattle.psci_fw_spec.specs.Outcomes.{executes_on}
+use Rattle.psci_fw_spec.specs.Changes.{start_of_life}
+use Rattle.psci_fw_spec.specs.Values.{IsNamed}
+use Rattle.psci_fw_spec.specs.PowerCalls.{executes_on}
 use Rattle.psci_fw_spec.specs.declared.outcome.Act.TheVariants as acts
 use Rattle.psci_fw_spec.proofs.Steps.{board, message}
 

@@ -1,28 +1,22 @@
 -- Worked examples are stated so: the calls of some cores in turn, and beside each its reply.
 use Rattle.std.proofs.Common.{pos, negsuc, map, reverse}
-use Rattle.psci_fw_spec.proofs.Words.{◌∷◌, ◌≡◌, [], BoardValue, Bool, Enter, false, Fault, FwCall}
-use Rattle.psci_fw_spec.proofs.Words.{FwExchange, FwFault, FwReply, Kind, legal_reply, List}
-use Rattle.psci_fw_spec.proofs.Words.{MessageValue, None, Out, Part, Smc, Some, start_of_life, suc}
-use Rattle.psci_fw_spec.proofs.Words.{Take, Taken, Values, zero, ℕ, ℤ}
-use Rattle.psci_abi.specs.declared.format.Format.TheVariants.{Original}
+use Rattle.psci_fw_spec.proofs.Words.{◌∷◌, ◌≡◌, [], BoardValue, Bool, Enter, false, Fault}
+use Rattle.psci_fw_spec.proofs.Words.{FwCall, FwExchange, FwFault, FwReply, Kind, legal_reply}
+use Rattle.psci_fw_spec.proofs.Words.{List, MessageValue, None, Out, Part, Smc, Some}
+use Rattle.psci_fw_spec.proofs.Words.{start_of_life, suc, Take, Taken, Values, zero, ℕ, ℤ}
+use Rattle.psci_abi.specs.declared.registers.Format.TheVariants.{Original}
 use Rattle.psci_board.specs.Board.{core_of, node_of, up}
-use Rattle.psci_messages.specs.Claim.{claims_of}
-use Rattle.psci_messages.specs.LastCore.{last_core_check, refusal, shallow, shallow_at}
+use Rattle.psci_messages.specs.Claim.{claims_of, last_core_check, refusal, shallow, shallow_at}
 use Rattle.psci_messages.specs.View.{generation, is_all_away, is_idle, least_ask}
 use Rattle.psci_messages.specs.Outstanding.{changes_since, last_message, outstanding}
 use Rattle.psci_messages.specs.declared.start.Cause.{Cause}
 use Rattle.psci_messages.specs.declared.start.Cause.TheVariants.{Boot, On, Wake, Reset}
-use Rattle.psci_fw_spec.specs.AffinityInfo.{node_status}
-use Rattle.psci_fw_spec.specs.After.{after}
-use Rattle.psci_fw_spec.specs.Answer.{answer}
-use Rattle.psci_fw_spec.specs.Calls.{outcome_of}
-use Rattle.psci_fw_spec.specs.Claims.{off_parts, suspend_parts}
-use Rattle.psci_fw_spec.specs.CpuOn.{target_of}
-use Rattle.psci_fw_spec.specs.Entering.{enter_outcome}
+use Rattle.psci_fw_spec.specs.PowerCalls.{node_status, off_parts, suspend_parts, target_of}
+use Rattle.psci_fw_spec.specs.Effects.{after, sent_messages}
+use Rattle.psci_fw_spec.specs.Answer.{answer, enter_outcome, outcome_of}
 use Rattle.psci_fw_spec.specs.History.{values_of}
-use Rattle.psci_fw_spec.specs.Sent.{sent_messages}
 use Rattle.psci_fw_spec.specs.Statuses.{statuses}
-use Rattle.psci_fw_spec.specs.Views.{view}
+use Rattle.psci_fw_spec.specs.Invariant.{view}
 pub use Rattle.psci_board.proofs.Tables.{◌⇒◌}
 use Rattle.psci_board.proofs.Tables as tables
 use Rattle.psci_messages.specs.declared.kind.Kind.TheVariants as kinds

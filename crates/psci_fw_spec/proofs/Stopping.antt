@@ -1,24 +1,188 @@
 -- What a core claims that stops is granted, and leaves values such as the firmware keeps.
-use Rattle.psci_fw_spec.proofs.Words.{◌<◌, ◌∙◌, ◌≡◌, ◌≤◌, activity_of, agrees, ap, AreValues, arith}
-use Rattle.psci_fw_spec.proofs.Words.{Away, BoardValue, claims_of, cleared, cores, false}
-use Rattle.psci_fw_spec.proofs.Words.{granted_with, in_life, is_away, is_expected, is_some, IsAsk}
-use Rattle.psci_fw_spec.proofs.Words.{IsPhase, known, least_wish, leaving_claims, List}
-use Rattle.psci_fw_spec.proofs.Words.{MessageValue, None, off_wish, Ok, Opening, Option, option_or}
-use Rattle.psci_fw_spec.proofs.Words.{OsInitiated, own_wish, Part, Phase, Platform}
-use Rattle.psci_fw_spec.proofs.Words.{PowerView, refl, Running, Start, subst, suspend_claims}
-use Rattle.psci_fw_spec.proofs.Words.{Suspended, SuspendMode, sym, true, unless_pending, updated}
-use Rattle.psci_fw_spec.proofs.Words.{Values, view, with_arrival, with_phase, ℕ}
-use Rattle.psci_fw_spec.specs.Changes.{Rest, with_claims, with_rest}
-use Rattle.psci_fw_spec.specs.Claims.{off_parts, suspend_parts}
-use Rattle.psci_fw_spec.proofs.Asked.{IsAsking, Known, asked_running, asks_at}
+use Rattle.std.proofs.Common.{◌++◌, option_and_then}
+use Rattle.std.proofs.lemmas.Bool.Decides.{Decides-int_eq}
+use Rattle.psci_messages.specs.Outstanding.{last_message, outstanding}
+use Rattle.psci_messages.specs.Slots.{changed, Slot}
+use Rattle.psci_fw_spec.specs.Effects.{after, Left, left, slot_changes}
+use Rattle.psci_fw_spec.specs.Changes.{first_confirmed, first_opening, Rest, with_claims, with_rest}
+use Rattle.psci_fw_spec.specs.PowerCalls.{off_parts, suspend_parts}
+use Rattle.psci_fw_spec.specs.History.{confirmed, granted, halting, life_after, mode, opening}
+use Rattle.psci_fw_spec.specs.History.{says_confirmed, says_granted, says_halting, says_known}
+use Rattle.psci_fw_spec.specs.History.{says_left, says_mode, says_opening, values_of}
+use Rattle.psci_fw_spec.specs.Legal.{are_same_parts, is_legal, is_same_act, is_same_message}
+use Rattle.psci_fw_spec.specs.Legal.{is_same_reply}
+use Rattle.psci_fw_spec.proofs.Granting.{AreBounded, AreGranted, AreWanted, asked_running, asks_at}
+use Rattle.psci_fw_spec.proofs.Granting.{awake_from, both_updated, bounded_cleared, bounded_of}
+use Rattle.psci_fw_spec.proofs.Granting.{ChangedAt, granted_cleared, granted_laid, granted_of}
+use Rattle.psci_fw_spec.proofs.Granting.{IsAsking, Known, left_asks, left_at, left_else}
+use Rattle.psci_fw_spec.proofs.Granting.{nested_laid, none_granted, parked_left, ran_asks, ran_left}
+use Rattle.psci_fw_spec.proofs.Granting.{updated_at, updated_each, updated_else}
 use Rattle.psci_fw_spec.proofs.Changing.{agree_away, known_arrived, phase_away}
-use Rattle.psci_fw_spec.proofs.Granting.{AreBounded, AreGranted, AreWanted, awake_from}
-use Rattle.psci_fw_spec.proofs.Granting.{both_updated, bounded_cleared, bounded_of, ChangedAt}
-use Rattle.psci_fw_spec.proofs.Granting.{granted_cleared, granted_laid, granted_of, left_asks}
-use Rattle.psci_fw_spec.proofs.Granting.{left_at, left_else, nested_laid, none_granted, parked_left}
-use Rattle.psci_fw_spec.proofs.Granting.{ran_asks, ran_left, updated_at, updated_each, updated_else}
 use Rattle.psci_fw_spec.proofs.Wishes.{claim_laid, least_wanted, off_wanted, own_wanted}
+use Rattle.psci_fw_spec.proofs.Words.{[], ◌<◌, ◌==◌, ◌↔◌, ◌∙◌, ◌∷◌, ◌≡◌, ◌≤◌, Act, activity_of}
+use Rattle.psci_fw_spec.proofs.Words.{agrees, ap, AreValues, arith, arrived, Away, begins}
+use Rattle.psci_fw_spec.proofs.Words.{BoardValue, change, changes, claims_of, cleared, cond, cores}
+use Rattle.psci_fw_spec.proofs.Words.{Effect, effect, effect_of, false, first_granted, first_status}
+use Rattle.psci_fw_spec.proofs.Words.{function_effect, FwCall, FwExchange, FwReply, granted_with}
+use Rattle.psci_fw_spec.proofs.Words.{in_life, is_away, is_expected, is_pending, is_some, IsAsk}
+use Rattle.psci_fw_spec.proofs.Words.{IsLegal, IsPhase, known, least_wish, leaving_claims}
+use Rattle.psci_fw_spec.proofs.Words.{legal_reply, life, List, MessageValue, nat_tests, None}
+use Rattle.psci_fw_spec.proofs.Words.{off_wish, Ok, only_if, Opening, Option, option_or}
+use Rattle.psci_fw_spec.proofs.Words.{OsInitiated, own_wish, Part, Pending, phase, Phase}
+use Rattle.psci_fw_spec.proofs.Words.{phase_left, Platform, PowerView, refl, Request, Running}
+use Rattle.psci_fw_spec.proofs.Words.{says_pending, says_status, Some, Start, start_of_life, status}
+use Rattle.psci_fw_spec.proofs.Words.{subst, suspend_claims, Suspended, SuspendMode, sym, true}
+use Rattle.psci_fw_spec.proofs.Words.{unless_pending, unwrap_or, updated, Values, view}
+use Rattle.psci_fw_spec.proofs.Words.{with_arrival, with_phase, ℕ}
+use Rattle.psci_messages.proofs.History.{outstanding-step}
 use Rattle.psci_fw_spec.specs.declared.status.Status.TheVariants as statuses
+
+-- One more ----------------------------------------------------------------------------------------
+-- A history with one more exchange says the values that its effect leaves, field by field; a core
+-- is pending exactly where its status is ON_PENDING; and replies are the same, and a history is
+-- legal, where the test says so.
+
+-- What is left --------------------------------------------------------------------------------
+
+-- a phase that an outcome can leave
+abbrev pub IsLeft : Phase → Type 0
+IsLeft Pending = ⊥
+IsLeft p = Unit {0}
+
+-- what an effect left, if it left something
+abbrev IsLeftBy : Option Left → Type 0
+IsLeftBy None = Unit {0}
+IsLeftBy (Some l) = IsLeft l.phase
+
+function_left : (b : BoardValue) (c : ℕ) (r : Request) (act : Act) (m : Option MessageValue)
+    → IsLeftBy (left (function_effect b c r act m))
+function_left b c r act m = grind arith
+
+effect_left : (b : BoardValue) (c : ℕ) (call : FwCall) (reply : FwReply)
+    → IsLeftBy (left (effect_of b c call reply))
+effect_left b c call reply = grind (arith, function_left)
+
+-- what is left of one core, by an effect or before it
+one_left : (before k : ℕ) (f : Effect) (last : Phase) → IsLeftBy (left f) → IsLeft last
+    → IsLeft (unwrap_or (option_and_then (λ l. only_if (k == l.core) (Some l.phase)) (left f))
+    (cond (begins before (arrived f)) Away last))
+one_left before k f last by is = grind arith
+
+pub is_left : (b : BoardValue) (h : List FwExchange) (k : ℕ) → IsLeft (phase_left b h k)
+is_left b [] k = tt
+is_left b (e ∷ h) k =
+    one_left (life b h) k (effect b e) _ (effect_left b e.core e.call e.reply) (is_left b h k)
+
+-- Pending cores -------------------------------------------------------------------------------
+
+-- One more exchange ---------------------------------------------------------------------------
+
+-- of each effect
+module _ (b : BoardValue) (h : List FwExchange) (f : Effect) where
+  -- what it says, or what holds at the start of a life that it begins, or what was before
+  abbrev now : {A : Type 0} → Option A → A → A → A
+  now said first before = unwrap_or said (cond (begins (life b h) (arrived f)) first before)
+
+  abbrev left_by : Values
+  left_by = change b f (values_of b h)
+
+  life_more : life_after (arrived f) (life b h) ≡ left_by.life
+  unfolding values_of
+  life_more = grind (arith, nat_tests)
+
+  halting_more : now (says_halting h f) false (halting b h) ≡ left_by.halting
+  unfolding values_of
+  halting_more = grind (arith, nat_tests)
+
+  mode_more : now (says_mode h f) Platform (mode b h) ≡ left_by.mode
+  unfolding values_of
+  mode_more = grind (arith, nat_tests)
+
+  known_more : (k : ℕ) → now (says_known k h f) 0 (known b h k) ≡ left_by.known k
+  unfolding values_of
+  known_more k = grind (arith, nat_tests)
+
+  status_more : (k : ℕ)
+      → now (says_status b k h f) (first_status k) (status b h k) ≡ left_by.status k
+  unfolding values_of
+  status_more k = grind (arith, nat_tests)
+
+  -- no outcome leaves a core pending
+  phase_more : (k : ℕ)
+      → cond (now (says_pending k h f) (k == 0) (is_pending b h k)) Pending
+      (now (says_left k h f) Away (phase_left b h k))
+      ≡ left_by.phase k
+  unfolding values_of
+  phase_more k = grind (arith, nat_tests, is_left b h k)
+
+  opening_more : (k : ℕ)
+      → now (says_opening k h f) (first_opening b k) (opening b h k) ≡ left_by.opening k
+  unfolding values_of
+  opening_more k = grind (arith, nat_tests)
+
+  granted_more : (level place : ℕ)
+      → now (says_granted b level place h f) (first_granted b level place)
+      (granted b h level place)
+      ≡ left_by.granted level place
+  unfolding values_of
+  granted_more level place = grind (arith, nat_tests)
+
+  confirmed_more : (level place : ℕ)
+      → now (says_confirmed b level place h f) (first_confirmed b level place)
+      (confirmed b h level place)
+      ≡ left_by.confirmed level place
+  unfolding values_of
+  confirmed_more level place = grind (arith, nat_tests)
+
+  outstanding_more : (slot : Slot)
+      → outstanding slot (slot_changes (begins (life b h) (arrived f)) f ++ changes b h)
+      ≡ left_by.outstanding slot
+  unfolding values_of
+  outstanding_more slot = grind (arith, nat_tests, outstanding-step)
+
+-- before any core has entered
+pub values_none : (b : BoardValue) → values_of b [] ≡ start_of_life b 0
+unfolding values_of outstanding last_message
+values_none b = refl
+
+pub values_more : (b : BoardValue) (e : FwExchange) (h : List FwExchange)
+    → values_of b (e ∷ h) ≡ after b e.core e.call e.reply (values_of b h)
+unfolding values_of after
+values_more b e h = λ i. record {
+  life = life_more b h (effect b e) i;
+  halting = halting_more b h (effect b e) i;
+  mode = mode_more b h (effect b e) i;
+  known = λ k. known_more b h (effect b e) k i;
+  status = λ k. status_more b h (effect b e) k i;
+  phase = λ k. phase_more b h (effect b e) k i;
+  opening = λ k. opening_more b h (effect b e) k i;
+  granted = λ level place. granted_more b h (effect b e) level place i;
+  confirmed = λ level place. confirmed_more b h (effect b e) level place i;
+  outstanding = λ slot. outstanding_more b h (effect b e) slot i;
+}
+
+-- Legal histories -----------------------------------------------------------------------------
+
+parts_same : (ps qs : List Part) → (are_same_parts ps qs ≡ true) ↔ (ps ≡ qs)
+parts_same [] [] = grind arith
+parts_same (p ∷ ps) (q ∷ qs) = grind (arith, nat_tests, parts_same ps qs)
+parts_same ps qs = grind arith
+
+message_same : (m n : MessageValue) → (is_same_message m n ≡ true) ↔ (m ≡ n)
+message_same m n = grind (arith, nat_tests, parts_same)
+
+act_same : (a c : Act) → (is_same_act a c ≡ true) ↔ (a ≡ c)
+act_same a c = grind (arith, nat_tests, Decides-int_eq)
+
+reply_same : (r s : FwReply) → (is_same_reply r s ≡ true) ↔ (r ≡ s)
+reply_same r s = grind (arith, nat_tests, message_same, act_same)
+
+pub legal_same : (b : BoardValue) (h : List FwExchange) → (is_legal b h ≡ true) ↔ IsLegal b h
+legal_same b [] = grind arith
+legal_same b (e ∷ h) =
+    grind (arith, reply_same e.reply (legal_reply b h e.core e.call), legal_same b h)
+
+-- Stopping ----------------------------------------------------------------------------------------
 
 -- Granted depths ------------------------------------------------------------------------------
 

@@ -8,16 +8,16 @@ use Rattle.psci_fw_spec.proofs.Words.{◌+◌, ◌<◌, ◌∙◌, ◌≡◌, �
 use Rattle.psci_fw_spec.proofs.Words.{Away, BoardValue, claimed_or, claims_of, cores, domain_of}
 use Rattle.psci_fw_spec.proofs.Words.{height, inl, inr, is_all_away, is_away, IsAsk, IsBoard}
 use Rattle.psci_fw_spec.proofs.Words.{known, last_core_check, least_wish, leaving_claims, List}
-use Rattle.psci_fw_spec.proofs.Words.{nat_tests, off_wish, Ok, OsInitiated, own_wish, Part, Phase}
-use Rattle.psci_fw_spec.proofs.Words.{phase, Platform, PowerView, refl, slice_get, Some, subst, suc}
-use Rattle.psci_fw_spec.proofs.Words.{suspend_claims, Suspended, SuspendMode, sym, true, true≢false}
-use Rattle.psci_fw_spec.proofs.Words.{up, Values, with_phase, zero, ℕ}
-use Rattle.psci_fw_spec.specs.Views.{view}
-use Rattle.psci_fw_spec.proofs.Asked.{all_off, alone, apart, asked-fall, asked-most, asked_away}
-use Rattle.psci_fw_spec.proofs.Asked.{asked_within, asks_at, IsAsking, IsLeast, joined}
-use Rattle.psci_fw_spec.proofs.Asked.{Known, least_is, off_all}
-use Rattle.psci_fw_spec.proofs.Granting.{AreGranted, AreLaid, AreWanted, ChangedAt}
-use Rattle.psci_fw_spec.specs.Claims.{off_parts, suspend_parts}
+use Rattle.psci_fw_spec.proofs.Words.{nat_tests, off_wish, Ok, OsInitiated, own_wish, Part}
+use Rattle.psci_fw_spec.proofs.Words.{Phase, phase, Platform, PowerView, refl, slice_get, Some}
+use Rattle.psci_fw_spec.proofs.Words.{subst, suc, suspend_claims, Suspended, SuspendMode, sym}
+use Rattle.psci_fw_spec.proofs.Words.{true, true≢false, up, Values, with_phase, zero, ℕ}
+use Rattle.psci_fw_spec.specs.Invariant.{view}
+use Rattle.psci_fw_spec.proofs.Granting.{all_off, alone, apart, AreGranted, AreLaid, AreWanted}
+use Rattle.psci_fw_spec.proofs.Granting.{asked-fall, asked-most, asked_away, asked_within}
+use Rattle.psci_fw_spec.proofs.Granting.{asks_at, ChangedAt, IsAsking, IsLeast, joined, Known}
+use Rattle.psci_fw_spec.proofs.Granting.{least_is, off_all}
+use Rattle.psci_fw_spec.specs.PowerCalls.{off_parts, suspend_parts}
 
 -- Parts ---------------------------------------------------------------------------------------
 

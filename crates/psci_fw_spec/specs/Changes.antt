@@ -1,20 +1,121 @@
 -- What happens to the values, one change for each thing that can happen.
-use Rattle.std.specs.Prelude.{ℕ, Bool, true, ◌&&◌, nat_lt, if◌then◌else◌, Option, None, Some}
+use Rattle.std.specs.List.{sum_by}
 use Rattle.std.specs.Option.{option_or}
-use Rattle.psci_board.specs.Board.{BoardValue}
+use Rattle.std.specs.Prelude.{◌&&◌, ◌==◌, Bool, false, if◌then◌else◌, List, nat_lt, None, not}
+use Rattle.std.specs.Prelude.{Option, option_and_then, slice_get, Some, true, ℕ}
+use Rattle.psci_board.specs.Board.{below, BoardValue, has_node, is_path_place}
+use Rattle.psci_board.specs.declared.draft.Node.{Node}
+use Rattle.psci_state.specs.PowerState.{power_down, running}
+use Rattle.psci_messages.specs.Message.{AckValue, MessageValue, only_if}
+use Rattle.psci_messages.specs.Slots.{Acknowledge, Change, changed, Clear, is_kind, Put, slot_of}
 use Rattle.psci_messages.specs.declared.kind.Kind.TheVariants.{Down}
-use Rattle.psci_messages.specs.Message.{AckValue, MessageValue}
-use Rattle.psci_messages.specs.Slots.{Change, Put, Clear, Acknowledge, changed, is_kind, slot_of}
-use Rattle.psci_fw_spec.specs.declared.mode.SuspendMode.{SuspendMode}
-use Rattle.psci_fw_spec.specs.declared.opening.Opening.{Opening}
+use Rattle.psci_messages.specs.declared.part.Part.{Part}
 use Rattle.psci_messages.specs.declared.start.Start.{Start}
-use Rattle.psci_fw_spec.specs.declared.status.Status.TheVariants as statuses
-use Rattle.psci_fw_spec.specs.Confirmed.{claimed_anew, confirms, unconfirmed}
-use Rattle.psci_fw_spec.specs.Lives.{in_life}
-use Rattle.psci_fw_spec.specs.Paths.{cleared, granted_with}
-use Rattle.psci_fw_spec.specs.Phases.{Phase, is_away, unless_pending}
+use Rattle.psci_fw_spec.specs.Values.{cleared, granted_with, updated, Values}
 use Rattle.psci_fw_spec.specs.Phases as phases
-use Rattle.psci_fw_spec.specs.Values.{Values, updated}
+use Rattle.psci_fw_spec.specs.Phases.{is_away, Phase, unless_pending}
+use Rattle.psci_fw_spec.specs.declared.mode.SuspendMode.{SuspendMode}
+use Rattle.psci_fw_spec.specs.declared.mode.SuspendMode.TheVariants.{Platform}
+use Rattle.psci_fw_spec.specs.declared.opening.Opening.{Opening}
+use Rattle.psci_fw_spec.specs.declared.status.Status.{Status}
+use Rattle.psci_fw_spec.specs.declared.status.Status.TheVariants as statuses
+
+-- Confirmed ---------------------------------------------------------------------------------------
+-- Which claims an acknowledgement confirms: the power controller says that it has carried them out.
+
+-- the part of a Down for this level, where the acknowledgement says that it was applied: of the
+-- parts, which count from the core up, the first ones were
+abbrev pub applied_part : AckValue → ℕ → Option MessageValue → Option Part
+applied_part a level sent =
+    only_if (is_kind a.kind Down && nat_lt level a.applied)
+    (option_and_then (λ m. slice_get m.parts level) sent)
+
+-- whether there is a part, and it was made at this sum of known starts
+abbrev pub is_made_at : ℕ → Option Part → Bool
+is_made_at known None = false
+is_made_at known (Some p) = p.generation == known
+
+-- what the claim on a domain is held against
+pub record Standing : Type 0 where
+  -- of each core the number of its last start that was seen to enter in this life, or 0
+  pub known : ℕ → ℕ
+  -- the depth that is granted to the domain
+  pub granted : ℕ
+  -- the message that is acknowledged, where it is outstanding
+  pub sent : Option MessageValue
+
+-- An acknowledgement confirms the claim on a domain: the domain is on the path of the message's
+-- core, its part was applied, and it is the last claim on the domain: something is still granted,
+-- and no core below has entered since.
+abbrev pub confirms : BoardValue → Standing → AckValue → Node → Bool
+confirms b now a n =
+    is_path_place b a.core.number n.level n.place && (nat_lt 0 now.granted
+    && is_made_at (sum_by now.known (below b n)) (applied_part a n.level now.sent))
+
+-- nothing is confirmed on the path of a core
+abbrev pub unconfirmed : BoardValue → ℕ → (ℕ → ℕ → Bool) → ℕ → ℕ → Bool
+unconfirmed b c confirmed level place =
+    if is_path_place b c level place then false else confirmed level place
+
+-- a claim that was just made is not confirmed; without one all is as before
+abbrev pub unless_claimed : Option Part → Bool → Bool
+unless_claimed None before = before
+unless_claimed (Some p) before = false
+
+-- what is confirmed once these parts are claimed, each on the path of a core at the level of its
+-- place in the list
+abbrev pub claimed_anew : BoardValue → ℕ → List Part → (ℕ → ℕ → Bool) → ℕ → ℕ → Bool
+claimed_anew b c parts confirmed level place =
+    if is_path_place b c level place
+    then unless_claimed (slice_get parts level) (confirmed level place)
+    else confirmed level place
+
+-- The start of a life -----------------------------------------------------------------------------
+
+-- the boot core is ON_PENDING, every other core is OFF (DEN0022D, the primary core of a cold boot)
+abbrev pub first_status : ℕ → Status
+first_status c = if c == 0 then statuses.Pending else statuses.Off
+
+-- the boot core is on its way, every other core is away
+abbrev pub first_phase : ℕ → Phase
+first_phase c = if c == 0 then phases.Pending else phases.Away
+
+-- the boot core enters at the board's boot address, with context id 0
+abbrev pub first_opening : BoardValue → ℕ → Option Opening
+first_opening b c = if c == 0 then Some (record { address = b.boot; context = 0 }) else None
+
+-- nothing is granted to the domains on the path of the boot core, power-down to all others
+abbrev pub first_granted : BoardValue → ℕ → ℕ → ℕ
+first_granted b level place =
+    if has_node b (record { level = level; place = place }) && not (is_path_place b 0 level place)
+    then power_down
+    else running
+
+-- the power-down of every domain off the path of the boot core is confirmed
+abbrev pub first_confirmed : BoardValue → ℕ → ℕ → Bool
+first_confirmed b level place =
+    has_node b (record { level = level; place = place }) && not (is_path_place b 0 level place)
+
+-- the values at the start of a life; before any core has entered the same, of life 0
+abbrev pub start_of_life : BoardValue → ℕ → Values
+start_of_life b life = record {
+  life = life;
+  halting = false;
+  mode = Platform;
+  known = λ c. 0;
+  status = first_status;
+  phase = first_phase;
+  opening = first_opening b;
+  granted = first_granted b;
+  confirmed = first_confirmed b;
+  outstanding = λ slot. None;
+}
+
+-- what a core finds that enters in this life: a life that is not the firmware's begins
+abbrev pub in_life : BoardValue → ℕ → Values → Values
+in_life b life v = if life == v.life then v else start_of_life b life
+
+-- Changes -----------------------------------------------------------------------------------------
 
 -- Messages ------------------------------------------------------------------------------------
 

@@ -1,13 +1,12 @@
 -- What is known by the calls so far and their replies. A history has its newest exchange first, and
 -- every definition looks backwards along it.
-use Rattle.std.specs.Prelude.{ℕ, Bool, true, false, not, ◌&&◌, ◌==◌, nat_lt, if◌then◌else◌, Option}
-use Rattle.std.specs.Prelude.{None, Some, option_map, unwrap_or, List, [], ◌∷◌, ◌++◌}
-use Rattle.std.specs.Prelude.{slice_get, option_and_then}
+use Rattle.std.specs.Prelude.{◌&&◌, ◌++◌, ◌==◌, ◌∷◌, [], Bool, false, if◌then◌else◌, List}
+use Rattle.std.specs.Prelude.{nat_lt, None, not, Option, option_and_then, option_map, slice_get}
+use Rattle.std.specs.Prelude.{Some, true, unwrap_or, ℕ}
 use Rattle.std.specs.Option.{option_or}
-use Rattle.psci_board.specs.Board.{BoardValue}
+use Rattle.psci_board.specs.Board.{BoardValue, is_path_place}
 use Rattle.psci_messages.specs.declared.kind.Kind.TheVariants.{Down}
-use Rattle.psci_messages.specs.Message.{AckValue, MessageValue}
-use Rattle.psci_messages.specs.OnlyIf.{only_if}
+use Rattle.psci_messages.specs.Message.{AckValue, MessageValue, only_if}
 use Rattle.psci_messages.specs.Outstanding as slots
 use Rattle.psci_messages.specs.Slots.{Change, is_kind, slot_of}
 use Rattle.psci_fw_spec.specs.declared.mode.SuspendMode.{SuspendMode}
@@ -15,16 +14,12 @@ use Rattle.psci_fw_spec.specs.declared.mode.SuspendMode.TheVariants.{Platform}
 use Rattle.psci_fw_spec.specs.declared.opening.Opening.{Opening}
 use Rattle.psci_fw_spec.specs.declared.status.Status.{Status}
 use Rattle.psci_fw_spec.specs.declared.status.Status.TheVariants as statuses
-use Rattle.psci_fw_spec.specs.Changes.{target}
-use Rattle.psci_fw_spec.specs.Confirmed.{confirms}
-use Rattle.psci_fw_spec.specs.Effects.{Effect, SetsMode, Rests, Halts, Acknowledges}
-use Rattle.psci_fw_spec.specs.Exchange.{FwExchange, effect}
-use Rattle.psci_fw_spec.specs.Lives.{first_confirmed, first_granted, first_opening, first_status}
-use Rattle.psci_board.specs.Paths.{is_path_place}
-use Rattle.psci_fw_spec.specs.Phases.{Phase, is_away}
-use Rattle.psci_fw_spec.specs.Phases.{Pending, Away}
-use Rattle.psci_fw_spec.specs.Said.{Arrival, arrived, asked_on, claims_sent, left, ran}
-use Rattle.psci_fw_spec.specs.Said.{slot_changes}
+use Rattle.psci_fw_spec.specs.Changes.{confirms, first_confirmed, first_granted, first_opening}
+use Rattle.psci_fw_spec.specs.Changes.{first_status, target}
+use Rattle.psci_fw_spec.specs.Effects.{Acknowledges, Arrival, arrived, asked_on, claims_sent}
+use Rattle.psci_fw_spec.specs.Effects.{Effect, effect, FwExchange, Halts, left, ran, Rests}
+use Rattle.psci_fw_spec.specs.Effects.{SetsMode, slot_changes}
+use Rattle.psci_fw_spec.specs.Phases.{Away, is_away, Pending, Phase}
 use Rattle.psci_fw_spec.specs.Values.{Values}
 
 -- Theorems speak of histories in which every reply is the answer. Of other ones the definitions

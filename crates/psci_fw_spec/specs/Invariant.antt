@@ -1,15 +1,35 @@
 -- What holds of the values after every history of legal replies.
-use Rattle.std.specs.Prelude.{◌≡◌, ◌≤◌, ◌<◌, ◌+◌, ℕ, Bool, true, false, is_some}
+use Rattle.std.specs.Prelude.{◌+◌, ◌<◌, ◌≡◌, ◌≤◌, Bool, false, if◌then◌else◌, is_some, nat_le}
+use Rattle.std.specs.Prelude.{true, ℕ}
 use Rattle.psci_board.specs.Board.{BoardValue, cores, height, up}
-use Rattle.psci_messages.specs.View.{domain_of, is_all_away, least_ask}
-use Rattle.psci_state.specs.Ask.{IsAsk, highest_of, is_deep, power_down}
+use Rattle.psci_state.specs.PowerState.{highest_of, is_deep, IsAsk, power_down}
+use Rattle.psci_state.specs.Cores.{asks, is_active, is_away}
+use Rattle.psci_messages.specs.View.{domain_of, is_all_away, least_ask, PowerView}
+use Rattle.psci_fw_spec.specs.Phases as phases
+use Rattle.psci_fw_spec.specs.Phases.{activity_of, Phase}
+use Rattle.psci_fw_spec.specs.Values.{Values}
 use Rattle.psci_fw_spec.specs.declared.mode.SuspendMode.TheVariants.{Platform}
 use Rattle.psci_fw_spec.specs.declared.status.Status.{Status}
-use Rattle.psci_fw_spec.specs.declared.status.Status.TheVariants.{On, Off, Pending}
-use Rattle.psci_fw_spec.specs.Phases.{Phase}
-use Rattle.psci_fw_spec.specs.Phases as phases
-use Rattle.psci_fw_spec.specs.Values.{Values}
-use Rattle.psci_fw_spec.specs.Views.{ask, view}
+use Rattle.psci_fw_spec.specs.declared.status.Status.TheVariants.{Off, On, Pending}
+
+-- What claims are made from, as the firmware's values say it --------------------------------------
+
+-- the depth that a core asks of its domain of this level: nothing where it runs or is pending, all
+-- where it is off or going off, and what it was suspended with; above the board's height nothing
+abbrev pub ask : BoardValue → Values → ℕ → ℕ → ℕ
+ask b v c level = if nat_le level (height b) then asks (activity_of (v.phase c)) level else 0
+
+-- what a claim is made from
+unfoldable pub view : BoardValue → Values → PowerView
+view b v = record {
+  ask = ask b v;
+  known = v.known;
+  is_active = λ c. is_active (activity_of (v.phase c));
+  is_away = λ c. is_away (activity_of (v.phase c));
+  granted = v.granted;
+}
+
+-- Invariant ---------------------------------------------------------------------------------------
 
 -- whether status and phase say the same of a core: both that it is pending, or neither; a core
 -- that runs or is suspended is ON

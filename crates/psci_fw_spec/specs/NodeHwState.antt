@@ -1,10 +1,10 @@
 -- NODE_HW_STATE: the state of the hardware of a core or power domain.
 use Rattle.std.specs.Prelude.{ℕ, pos, ◌==◌, if◌then◌else◌, Option, None, Some}
-use Rattle.psci_abi.specs.Codes.{invalid_parameters}
-use Rattle.psci_abi.specs.declared.code.Code.{Code}
+use Rattle.psci_abi.specs.Calls.{invalid_parameters}
+use Rattle.psci_abi.specs.declared.registers.Code.{Code}
 use Rattle.psci_board.specs.Board.{BoardValue, node_of}
-use Rattle.psci_board.specs.declared.node.Node.{Node}
-use Rattle.psci_state.specs.Ask.{power_down, running}
+use Rattle.psci_board.specs.declared.draft.Node.{Node}
+use Rattle.psci_state.specs.PowerState.{power_down, running}
 use Rattle.psci_fw_spec.specs.declared.hw.Hw.{Hw}
 use Rattle.psci_fw_spec.specs.declared.hw.Hw.TheVariants.{On, Off, Standby}
 use Rattle.psci_fw_spec.specs.Values.{Values}

@@ -1,6 +1,6 @@
 -- What a core is to the firmware.
 use Rattle.std.specs.Prelude.{ℕ, Bool, true, false, not, List}
-use Rattle.psci_state.specs.Ask.{is_deep}
+use Rattle.psci_state.specs.PowerState.{is_deep}
 use Rattle.psci_state.specs.declared.cores.Activity.{Activity}
 use Rattle.psci_state.specs.declared.cores.Activity.TheVariants as activities
 

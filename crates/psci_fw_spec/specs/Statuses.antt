@@ -3,11 +3,10 @@ use Rattle.std.specs.Prelude.{ℕ, ◌==◌, if◌then◌else◌, List, [], ◌�
 use Rattle.psci_board.specs.Board.{BoardValue}
 use Rattle.psci_fw_spec.specs.declared.status.Status.{Status}
 use Rattle.psci_fw_spec.specs.declared.status.Status.TheVariants.{Off}
-use Rattle.psci_fw_spec.specs.AffinityInfo.{status_code}
-use Rattle.psci_fw_spec.specs.Exchange.{FwExchange, effect}
+use Rattle.psci_fw_spec.specs.PowerCalls.{status_code}
+use Rattle.psci_fw_spec.specs.Effects.{arrived, effect, FwExchange}
 use Rattle.psci_fw_spec.specs.History.{begins, life, status}
-use Rattle.psci_fw_spec.specs.Lives.{first_status}
-use Rattle.psci_fw_spec.specs.Said.{arrived}
+use Rattle.psci_fw_spec.specs.Changes.{first_status}
 
 -- one more status, where it is another one than the last
 abbrev pub added : Status → List Status → List Status

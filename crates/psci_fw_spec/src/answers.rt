@@ -5,18 +5,15 @@ ghost use Rattle.std.specs.Prelude.{◌≡◌, ℕ, true, Some};
 ghost use Rattle.psci_abi.specs.declared.request.Request.{Request};
 ghost use Rattle.psci_abi.specs.declared.request.Request.TheVariants as requests;
 ghost use Rattle.psci_board.specs.Board.{BoardValue, core_of};
-ghost use Rattle.psci_board.specs.declared.node.Core.{Core};
+ghost use Rattle.psci_board.specs.declared.draft.Core.{Core};
 ghost use Rattle.psci_messages.specs.declared.kind.Kind.TheVariants as kinds;
 ghost use Rattle.psci_messages.specs.declared.start.Start.{Start};
 ghost use Rattle.psci_messages.specs.Message.{AckValue, MessageValue};
 ghost use Rattle.psci_messages.specs.Slots.{slot_of};
-ghost use Rattle.psci_fw_spec.specs.Calls.{function_outcome, outcome_of};
-ghost use Rattle.psci_fw_spec.specs.Entering.{enter_outcome};
-ghost use Rattle.psci_fw_spec.specs.Lives.{in_life};
-ghost use Rattle.psci_fw_spec.specs.Named.{IsNamed};
-ghost use Rattle.psci_fw_spec.specs.Outcomes.{stops};
-ghost use Rattle.psci_fw_spec.specs.Taking.{taken_by};
-ghost use Rattle.psci_fw_spec.specs.Values.{Values};
+ghost use Rattle.psci_fw_spec.specs.Answer.{enter_outcome, function_outcome, outcome_of};
+ghost use Rattle.psci_fw_spec.specs.Changes.{in_life};
+ghost use Rattle.psci_fw_spec.specs.Values.{IsNamed, taken_by, Values};
+ghost use Rattle.psci_fw_spec.specs.PowerCalls.{stops};
 
 /// In a halting life a core stops, and nothing is sent: whichever function it calls, and however it
 /// enters.

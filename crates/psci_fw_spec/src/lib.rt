@@ -25,10 +25,7 @@ pub use answers::{law_answers_depend, law_halting_life, law_message_names};
 pub use call::FwCall;
 pub use fault::FwFault;
 pub use hw::Hw;
-pub use laws::{
-    law_caller, law_enters, law_first_start, law_invariant, law_legal, law_pending, law_power_on,
-    law_stops, law_values,
-};
+pub use laws::{law_invariant, law_power_on, law_values};
 pub use mode::SuspendMode;
 pub use opening::Opening;
 pub use outcome::{Act, Outcome};

@@ -1,7 +1,7 @@
 //! How a call ends.
 
 ghost use Rattle.std.specs.Prelude.{◌≡◌};
-ghost use Rattle.psci_fw_spec.specs.Outcomes.{returns, stops, stops_with};
+ghost use Rattle.psci_fw_spec.specs.PowerCalls.{returns, stops, stops_with};
 
 use psci_abi::Code;
 use psci_messages::Message;

@@ -1,7 +1,7 @@
 //! The status of a core or of a power domain.
 
 ghost use Rattle.std.specs.Prelude.{◌≡◌, pos};
-ghost use Rattle.psci_fw_spec.specs.AffinityInfo.{is_on, is_pending_status, status_code};
+ghost use Rattle.psci_fw_spec.specs.PowerCalls.{is_on, is_pending_status, status_code};
 
 use psci_abi::Code;
 

@@ -1,25 +1,113 @@
 -- What is counted of each core, and what the counts of the whole system say of all cores together.
-use Rattle.std.proofs.Common.{◌^◌}
-use Rattle.std.proofs.lemmas.List.{drop_all}
-use Rattle.psci_fw_state.proofs.Words.{◌+◌, ◌<◌, ◌==◌, ◌∙◌, ◌≡◌, ◌≤◌, Activity, agrees, ap, arith}
-use Rattle.psci_fw_state.proofs.Words.{below_in, Bool, cond, CoreRow, cores, CoreState, count_by}
-use Rattle.psci_fw_state.proofs.Words.{drop, get_or_past, height, is_active, is_away, is_off_status}
-use Rattle.psci_fw_state.proofs.Words.{is_on, is_pending_status, is_suspended_or_pending, IsState}
-use Rattle.psci_fw_state.proofs.Words.{length, length-range_with_len, List, list_any, lt-ltb, ltb}
-use Rattle.psci_fw_state.proofs.Words.{never_started, Node, not, off_row, one_core, phase_by}
-use Rattle.psci_fw_state.proofs.Words.{range_with_len, refl, size_below, size_few, state_at}
-use Rattle.psci_fw_state.proofs.Words.{StateValue, status_at, StatusCounts, sum_by, sym, true, ℕ}
-use Rattle.psci_fw_state.proofs.Words.{◌||◌, ◌∷◌, [], cases_lt, eq-eqb, false, inl, inr, ne_eqb}
-use Rattle.psci_fw_state.proofs.Words.{Status, sum_by-cons}
-use Rattle.psci_fw_spec.specs.SystemCalls.{all_others}
-use Rattle.psci_tree.specs.Recount.{is_away as is_gone, active, off}
-use Rattle.psci_board.specs.declared.span.CoreSpan.{CoreSpan}
-use Rattle.psci_board.specs.Laws.{SpanLaws}
-use Rattle.psci_fw_state.specs.Counts.{counts_below}
-use Rattle.psci_tree.proofs.Ranges.{counted_both, ones, sums, all_counted, range_once, range_same}
-use Rattle.psci_fw_state.proofs.NodeStatus.{some_counted}
-use Rattle.psci_state.specs.declared.cores.Activity.TheVariants as activities
 use Rattle.std.specs.List.{list_all}
+use Rattle.std.proofs.Common.{◌^◌, filter}
+use Rattle.std.proofs.lemmas.Bool.{and_from, le-leb, ltb-false}
+use Rattle.std.proofs.lemmas.List.{drop_all}
+use Rattle.std.proofs.lemmas.List.Sums.{count_by-le-length, length-filter}
+use Rattle.psci_board.specs.Board.{has_node, SpanLaws}
+use Rattle.psci_board.specs.declared.span.CoreSpan.{CoreSpan}
+use Rattle.psci_state.specs.declared.cores.Activity.TheVariants as activities
+use Rattle.psci_tree.specs.Recount.{active, is_away as is_gone, off}
+use Rattle.psci_tree.proofs.Ranges.{all_counted, counted_both, ones, range_once, range_same}
+use Rattle.psci_tree.proofs.Ranges.{sum_off, sum_on, sums, zeros}
+use Rattle.psci_fw_spec.specs.PowerCalls.{all_others, node_status, status_over}
+use Rattle.psci_fw_state.specs.Counts.{counts_below}
+use Rattle.psci_fw_state.specs.Seen.{values_in}
+use Rattle.psci_fw_state.proofs.Words.{◌+◌, ◌-◌, ◌<◌, ◌==◌, ◌||◌, ◌∙◌, ◌∷◌, ◌≡◌, ◌≤◌, []}
+use Rattle.psci_fw_state.proofs.Words.{Activity, agrees, ap, arith, below_in, BoardValue, Bool}
+use Rattle.psci_fw_state.proofs.Words.{cases_lt, cond, CoreRow, cores, CoreState, count_by}
+use Rattle.psci_fw_state.proofs.Words.{counts_at, drop, eq-eqb, false, get_or_past, height, inl}
+use Rattle.psci_fw_state.proofs.Words.{inr, is_active, is_away, is_off_status, is_on}
+use Rattle.psci_fw_state.proofs.Words.{is_pending_status, is_suspended_or_pending, IsState}
+use Rattle.psci_fw_state.proofs.Words.{IsTree, leb, length, length-range_with_len, List}
+use Rattle.psci_fw_state.proofs.Words.{list_any, lt-ltb, ltb, MayRecount, ne_eqb, never_started}
+use Rattle.psci_fw_state.proofs.Words.{no_cores, Node, nodes, not, Off, off_row, one_core}
+use Rattle.psci_fw_state.proofs.Words.{phase_by, place_above, range_with_len, recounted, refl}
+use Rattle.psci_fw_state.proofs.Words.{row_at, size_below, size_few, state_at, StateValue}
+use Rattle.psci_fw_state.proofs.Words.{Status, status_at, status_counted, StatusCounts, sum_by}
+use Rattle.psci_fw_state.proofs.Words.{sum_by-cons, sym, true, ℕ}
+
+-- The status of a node is that of what is counted of the cores below it ---------------------------
+
+-- Counted or looked for -------------------------------------------------------------------------
+
+some_more : (t : Bool) (n : ℕ) (any : Bool) → ltb 0 n ≡ any → ltb 0 (cond t 1 0 + n) ≡ (t || any)
+some_more t n any e = grind arith
+
+-- one is there where more than none are counted
+pub some_counted : (passes : ℕ → Bool) (cs : List ℕ) → ltb 0 (count_by passes cs)
+    ≡ list_any passes cs
+some_counted passes [] = refl
+some_counted passes (c ∷ cs) =
+    ap (ltb 0) (sum_by-cons (λ x. cond (passes x) 1 0) c cs)
+    ∙ some_more (passes c) (count_by passes cs) (list_any passes cs) (some_counted passes cs)
+
+status_of_counts : (levels : List (List ℕ)) (status : ℕ → Status) (n : Node)
+    → status_counted (counts_below levels status n) ≡ status_over status (below_in levels n)
+unfolding counts_below
+status_of_counts levels status n =
+    rw (
+      some_counted (λ c. is_on (status c)) (below_in levels n),
+      some_counted (λ c. is_pending_status (status c)) (below_in levels n),
+    ) refl
+
+-- The status of a node --------------------------------------------------------------------------
+
+-- a power domain above the cores has that of its count
+domain_of : (b : BoardValue) (status : ℕ → Status) (n : Node) → (n.level ≡ 0 → ⊥)
+    → n.level ≤ height b → n.place < nodes b n.level
+    → status_counted (counts_below b.levels status n) ≡ node_status b status n
+unfolding node_status
+domain_of b status n above low inside =
+    let there : has_node b n ≡ true =
+    and_from _ _ (le-leb n.level (height b) low) (lt-ltb n.place (nodes b n.level) inside) in
+    let other : (n.level == 0) ≡ false = ne_eqb n.level 0 above in
+    rw (there, other) (status_of_counts b.levels status n)
+
+pub status_domain : (s now : StateValue) (n : Node) → s ≡ now → IsState s → (n.level ≡ 0 → ⊥)
+    → n.level ≤ height s.board → n.place < nodes s.board n.level
+    → status_counted (counts_at s.counts n.level n.place)
+    ≡ node_status now.board (values_in now).status n
+unfolding values_in
+status_domain s now n same is above low inside =
+    ap status_counted (is.counts.each n.level n.place (omega (arith, above)) low inside)
+    ∙ domain_of s.board (status_at s.rows) n above low inside
+    ∙ ap (λ (x : StateValue). node_status x.board (λ c. (row_at x.rows c).status) n) same
+
+-- a node that the board does not have is OFF
+pub status_none : (b : BoardValue) (status : ℕ → Status) (n : Node)
+    → (n.level ≤ height b → n.place < nodes b n.level → ⊥) → Off ≡ node_status b status n
+unfolding node_status
+status_none b status n none = grind (arith, none)
+
+-- a core's status is in its row; one that the board does not have is OFF
+pub status_leaf : (s now : StateValue) (n : Node) → s ≡ now → IsState s → n.level ≡ 0
+    → (row_at s.rows n.place).status ≡ node_status now.board (values_in now).status n
+unfolding values_in node_status
+status_leaf s now n same is leaf =
+    by_test (has_node s.board n) refl
+    ∙ ap (λ (x : StateValue). node_status x.board (λ c. (row_at x.rows c).status) n) same
+  where
+    here : (n.level == 0) ≡ true
+    here = eq-eqb n.level 0 leaf
+
+    by_test : (t : Bool) → has_node s.board n ≡ t → (row_at s.rows n.place).status
+        ≡ node_status s.board (λ c. (row_at s.rows c).status) n
+    by_test true f = rw (f, here) refl
+    by_test false f =
+        let past : length s.rows ≤ n.place = omega (arith, is.rows, outside f) in
+        rw (f, get_or_past s.rows n.place off_row past) refl
+      where
+        low : leb n.level (height s.board) ≡ true
+        low = le-leb n.level (height s.board) (omega (arith, leaf))
+
+        outside : has_node s.board n ≡ false → cores s.board ≤ n.place
+        outside g =
+            let no : ltb n.place (nodes s.board n.level) ≡ false = rw low at g in
+            let past : nodes s.board n.level ≤ n.place = ltb-false n.place _ no in
+            rw leaf at past
+
+-- All cores ---------------------------------------------------------------------------------------
 
 -- All cores but one ------------------------------------------------------------------------------
 
@@ -235,3 +323,95 @@ module _ (s : StateValue) (is : IsState s) (laws : SpanLaws s.board.levels) wher
     none_pending total t h =
         same_less (n + m) (count_by waiting everyone) total (omega (arith, waits, t, h))
         ∙ some_counted waiting everyone
+
+-- What is counted of the cores below a domain, once one core has another status -------------------
+
+-- Cores below a domain ---------------------------------------------------------------------------
+
+at_most_one : (b : Bool) → cond b 1 0 ≤ 1
+at_most_one true = omega arith
+at_most_one false = omega arith
+
+-- how many cores below pass a test
+abbrev passing : (Status → Bool) → List (List ℕ) → (ℕ → Status) → Node → ℕ
+passing passes levels status n = count_by (λ c. passes (status c)) (below_in levels n)
+
+few_passing : (passes : Status → Bool) (levels : List (List ℕ)) (status : ℕ → Status) (n : Node)
+    → IsTree levels → passing passes levels status n ≤ 256
+few_passing passes levels status n t =
+    let test : ℕ → Bool = λ c. place_above levels n.level c == n.place in
+    let all : List ℕ = range_with_len 0 (size_below levels) in
+    omega (
+      arith,
+      count_by-le-length (λ c. passes (status c)) (filter test all),
+      length-filter test all,
+      count_by-le-length test all,
+      length-range_with_len 0 (size_below levels),
+      size_few levels t,
+    )
+
+-- one core has another status than before
+module _ (levels : List (List ℕ)) (old new : ℕ → Status) (core : ℕ)
+    (inside : core < size_below levels)
+    (same : (c : ℕ) → (c ≡ core → ⊥) → new c ≡ old c) (n : Node) where
+  on_path : (passes : Status → Bool) → place_above levels n.level core ≡ n.place
+      → passing passes levels new n + cond (passes (old core)) 1 0
+      ≡ passing passes levels old n + cond (passes (new core)) 1 0
+  on_path passes e =
+      sum_on (λ c. cond (passes (new c)) 1 0) (λ c. cond (passes (old c)) 1 0)
+      (λ c. place_above levels n.level c == n.place) (size_below levels) core inside
+      (λ c q. ap (λ (s : Status). cond (passes s) 1 0) (same c q)) (eq-eqb _ _ e)
+
+  off_path : (passes : Status → Bool) → (place_above levels n.level core ≡ n.place → ⊥)
+      → passing passes levels new n ≡ passing passes levels old n
+  off_path passes e =
+      sum_off (λ c. cond (passes (new c)) 1 0) (λ c. cond (passes (old c)) 1 0)
+      (λ c. place_above levels n.level c == n.place) (size_below levels) core inside
+      (λ c q. ap (λ (s : Status). cond (passes s) 1 0) (same c q)) (ne_eqb _ _ e)
+
+  -- a domain on its path is counted so anew
+  pub recounted_on : place_above levels n.level core ≡ n.place
+      → recounted (counts_below levels old n) (one_core (old core)) (one_core (new core))
+      ≡ counts_below levels new n
+  unfolding counts_below
+  recounted_on e =
+      let on : passing is_on levels old n + cond (is_on (new core)) 1 0
+      - cond (is_on (old core)) 1 0 ≡ passing is_on levels new n =
+      omega (arith, on_path is_on e) in
+      let pending : passing is_pending_status levels old n
+      + cond (is_pending_status (new core)) 1 0 - cond (is_pending_status (old core)) 1 0
+      ≡ passing is_pending_status levels new n =
+      omega (arith, on_path is_pending_status e) in
+      λ i. record { on = on i; pending = pending i }
+
+  pub may_recount : IsTree levels → place_above levels n.level core ≡ n.place
+      → MayRecount (counts_below levels old n) (one_core (old core)) (one_core (new core))
+  unfolding counts_below
+  may_recount t e = record {
+    on = omega (arith, on_path is_on e);
+    pending = omega (arith, on_path is_pending_status e);
+    few_on = omega (arith, few_passing is_on levels old n t, at_most_one (is_on (new core)));
+    few_pending = omega (
+      arith,
+      few_passing is_pending_status levels old n t,
+      at_most_one (is_pending_status (new core)),
+    );
+  }
+
+  -- and any other as it was
+  pub recounted_off : (place_above levels n.level core ≡ n.place → ⊥)
+      → counts_below levels old n ≡ counts_below levels new n
+  unfolding counts_below
+  recounted_off e = λ i. record {
+    on = sym (off_path is_on e) i;
+    pending = sym (off_path is_pending_status e) i;
+  }
+
+-- No core ----------------------------------------------------------------------------------------
+
+-- while every core is OFF, there is nothing to count
+pub none_below : (levels : List (List ℕ)) (n : Node)
+    → counts_below levels (λ c. Off) n ≡ no_cores
+unfolding counts_below
+none_below levels n =
+    λ i. record { on = zeros (below_in levels n) i; pending = zeros (below_in levels n) i }

@@ -4,23 +4,24 @@ use Rattle.std.specs.List.{AllPass}
 use Rattle.std.proofs.Math.ListN.{replicate}
 use Rattle.psci_fw_state.proofs.Words.{◌&&◌, ◌<◌, ◌==◌, ◌∙◌, ◌∷◌, ◌≡◌, ◌≤◌, [], and_parts, ap}
 use Rattle.psci_fw_state.proofs.Words.{arith, BoardValue, Bool, cases_lt, cond, CoreRow, cores}
-use Rattle.psci_fw_state.proofs.Words.{CoreState, drop, false, first_row, get_or-replicate}
-use Rattle.psci_fw_state.proofs.Words.{get_or_past, granted_at, height, in_life, inl, inr}
-use Rattle.psci_fw_state.proofs.Words.{is_confirmed_at, IsDomainTree, IsState, IsTree, leb}
-use Rattle.psci_fw_state.proofs.Words.{leb-true, length, length-replicate, List, ltb, ltb-true}
-use Rattle.psci_fw_state.proofs.Words.{message_in, MessageValue, never_started, nodes, None, not}
-use Rattle.psci_fw_state.proofs.Words.{off_row, Option, phase_by, place_above, Platform, refl}
-use Rattle.psci_fw_state.proofs.Words.{row_at, size_below, Slot, SlotsValue, state_at, StateValue}
-use Rattle.psci_fw_state.proofs.Words.{status_at, StatusCounts, sum_by-cons, sym, TreeValue, true}
-use Rattle.psci_fw_state.proofs.Words.{updated, Values, ℕ, get_or, length-map, map}
+use Rattle.psci_fw_state.proofs.Words.{CoreState, drop, false, first_row, get_or}
+use Rattle.psci_fw_state.proofs.Words.{get_or-replicate, get_or_past, granted_at, height}
+use Rattle.psci_fw_state.proofs.Words.{in_life, inl, inr, is_confirmed_at, IsDomainTree, IsState}
+use Rattle.psci_fw_state.proofs.Words.{IsTree, leb, leb-true, length, length-map}
+use Rattle.psci_fw_state.proofs.Words.{length-replicate, List, ltb, ltb-true, map, message_in}
+use Rattle.psci_fw_state.proofs.Words.{MessageValue, never_started, nodes, None, not, off_row}
+use Rattle.psci_fw_state.proofs.Words.{Option, phase_by, place_above, Platform, refl, row_at}
+use Rattle.psci_fw_state.proofs.Words.{size_below, Slot, SlotsValue, state_at, StateValue}
+use Rattle.psci_fw_state.proofs.Words.{status_at, StatusCounts, sum_by-cons, sym, TreeValue}
+use Rattle.psci_fw_state.proofs.Words.{true, updated, Values, ℕ}
 use Rattle.psci_board.specs.Board.{IsBoard, is_width, up}
 use Rattle.psci_messages.specs.Slots.{no_messages}
 use Rattle.psci_messages.specs.Slots.Slot.{OfCore, OfSystem}
-use Rattle.psci_fw_spec.specs.Lives.{first_confirmed, first_granted, first_phase, first_status}
-use Rattle.psci_fw_spec.specs.Lives.{start_of_life}
+use Rattle.psci_fw_spec.specs.Changes.{first_confirmed, first_granted, first_phase, first_status}
+use Rattle.psci_fw_spec.specs.Changes.{start_of_life}
 use Rattle.psci_fw_state.specs.Rows.{AreFirst}
 use Rattle.psci_fw_state.specs.Seen.{values_in}
-use Rattle.psci_fw_state.proofs.Changed.{eqb_swap}
+use Rattle.psci_fw_state.proofs.Moved.{eqb_swap}
 use Rattle.psci_state.specs.declared.cores.Activity.TheVariants as activities
 use Rattle.psci_fw_spec.specs.declared.status.Status.TheVariants as statuses
 use Rattle.psci_tree.specs.Recount.{level_sizes}

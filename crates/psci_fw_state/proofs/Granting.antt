@@ -1,20 +1,20 @@
 -- Parts are granted one after another, from the core up.
 use Rattle.std.proofs.Common.{add-one}
 use Rattle.psci_fw_state.proofs.Words.{◌&&◌, ◌+◌, ◌-◌, ◌<◌, ◌==◌, ◌∙◌, ◌≡◌, ◌≤◌, ap, arith}
-use Rattle.psci_fw_state.proofs.Words.{BoardValue, Bool, claimed_anew, cond, cores, eq-eqb}
-use Rattle.psci_fw_state.proofs.Words.{eqb-true, ne_eqb, false, granted_at, granted_with, HasNodeIn}
-use Rattle.psci_fw_state.proofs.Words.{height, is_confirmed_at, length, List, Node, Option, Part}
-use Rattle.psci_fw_state.proofs.Words.{PathLaws, place_above, refl, size_below, slice_get}
-use Rattle.psci_fw_state.proofs.Words.{slice_get_past, Some, sym, TreeValue, true, ℕ, cases_lt, inl}
-use Rattle.psci_fw_state.proofs.Words.{inr}
+use Rattle.psci_fw_state.proofs.Words.{BoardValue, Bool, cases_lt, claimed_anew, cond, cores}
+use Rattle.psci_fw_state.proofs.Words.{eq-eqb, eqb-true, false, granted_at, granted_with}
+use Rattle.psci_fw_state.proofs.Words.{HasNodeIn, height, inl, inr, is_confirmed_at, length}
+use Rattle.psci_fw_state.proofs.Words.{List, ne_eqb, Node, Option, Part, PathLaws, place_above}
+use Rattle.psci_fw_state.proofs.Words.{refl, size_below, slice_get, slice_get_past, Some, sym}
+use Rattle.psci_fw_state.proofs.Words.{TreeValue, true, ℕ}
 use Rattle.psci_board.specs.Board.{up}
 use Rattle.psci_messages.specs.Message.{PartByPart}
 use Rattle.psci_tree.specs.Changes.{MayGrant}
 use Rattle.psci_tree.specs.Standing.{on_path as on_path_of}
-use Rattle.psci_fw_spec.specs.Confirmed.{unless_claimed}
-use Rattle.psci_fw_spec.specs.Paths.{claimed_or}
+use Rattle.psci_fw_spec.specs.Changes.{unless_claimed}
+use Rattle.psci_fw_spec.specs.Values.{claimed_or}
 use Rattle.psci_fw_state.specs.Claims.{MayClaim}
-use Rattle.psci_fw_state.proofs.Changed.{eqb_swap}
+use Rattle.psci_fw_state.proofs.Moved.{eqb_swap}
 
 -- Level by level ------------------------------------------------------------------------------
 

@@ -1,17 +1,162 @@
 -- The counts that are kept, by level and place, once a core has another status.
-use Rattle.std.proofs.Common.{zero, ◌++◌, take}
+use Rattle.std.specs.Prelude.{if◌then◌else◌, nat_le, Option}
+use Rattle.std.proofs.Common.{◌++◌, append-nil, append_assoc, Err, length-append, take, zero}
+use Rattle.std.proofs.Math.Seq.{get_or-append_seam}
 use Rattle.std.proofs.lemmas.Bool.{cases_eq}
-use Rattle.psci_fw_state.proofs.Words.{◌+◌, ◌-◌, ◌<◌, ◌∙◌, ◌∷◌, ◌≡◌, ◌≤◌, [], ap, AreCounts, arith}
-use Rattle.psci_fw_state.proofs.Words.{BoardValue, cases_lt, cores, counts_at, counts_below, drop}
-use Rattle.psci_fw_state.proofs.Words.{get_or, get_or-map, get_or-replicate, get_or-set_other}
-use Rattle.psci_fw_state.proofs.Words.{get_or-set_same, height, inl, inr, IsTree, length}
-use Rattle.psci_fw_state.proofs.Words.{length-map, length-replicate, length-set, level_counts, List}
-use Rattle.psci_fw_state.proofs.Words.{map, MayRecount, no_cores, Node, Off, one_core, PathLaws}
-use Rattle.psci_fw_state.proofs.Words.{place_above, recounted, refl, replicate, set, size_below}
-use Rattle.psci_fw_state.proofs.Words.{Status, StatusCounts, subst, suc, sym, ℕ}
-use Rattle.psci_board.specs.Board.{up}
+use Rattle.std.proofs.lemmas.Option.{slice_get_read}
+use Rattle.psci_board.specs.Board.{domain_of, up}
+use Rattle.psci_tree.specs.Recount.{asks, is_away}
+use Rattle.psci_messages.specs.Claim.{answer_by, claims_of, climb, last_core_check}
+use Rattle.psci_messages.specs.View.{generation, least_ask, PowerView}
+use Rattle.psci_messages.specs.declared.osi.Osi.{Osi}
+use Rattle.psci_coord.specs.Wish.{wanted}
+use Rattle.psci_coord.specs.declared.claim.Wish.{Wish}
+use Rattle.psci_coord.specs.declared.claim.Wish.TheVariants.{Least, Own}
+use Rattle.psci_coord.proofs.Climbing.{IsClimbedTo}
+use Rattle.psci_fw_spec.specs.PowerCalls.{suspend_claims}
+use Rattle.psci_fw_spec.specs.Phases.{activity_of}
+use Rattle.psci_fw_spec.specs.Invariant.{view}
+use Rattle.psci_fw_spec.specs.declared.mode.SuspendMode.{SuspendMode}
+use Rattle.psci_fw_spec.specs.declared.mode.SuspendMode.TheVariants.{OsInitiated}
 use Rattle.psci_fw_state.specs.Counts.{HasDomains, with_counts}
-use Rattle.psci_fw_state.proofs.Counting.{may_recount, none_below, recounted_off, recounted_on}
+use Rattle.psci_fw_state.specs.Seen.{values_in}
+use Rattle.psci_fw_state.proofs.AllCores.{may_recount, none_below, recounted_off, recounted_on}
+use Rattle.psci_fw_state.proofs.Words.{◌+◌, ◌-◌, ◌<◌, ◌∙◌, ◌∷◌, ◌≡◌, ◌≤◌, [], Activity, ap}
+use Rattle.psci_fw_state.proofs.Words.{AreCounts, arith, asked_wish, BoardValue, cases_lt, cores}
+use Rattle.psci_fw_state.proofs.Words.{counts_at, counts_below, drop, get_or, get_or-map}
+use Rattle.psci_fw_state.proofs.Words.{get_or-replicate, get_or-set_other, get_or-set_same}
+use Rattle.psci_fw_state.proofs.Words.{height, inl, inr, is_active, IsState, IsTree, length}
+use Rattle.psci_fw_state.proofs.Words.{length-map, length-replicate, length-set, level_counts}
+use Rattle.psci_fw_state.proofs.Words.{List, map, MayRecount, no_cores, Node, None, Off, Ok}
+use Rattle.psci_fw_state.proofs.Words.{one_core, Opening, own_claims, Part, PathLaws, phase_by}
+use Rattle.psci_fw_state.proofs.Words.{place_above, Platform, recounted, refl, refusal}
+use Rattle.psci_fw_state.proofs.Words.{replicate, row_at, set, shallow, size_below, slice_get}
+use Rattle.psci_fw_state.proofs.Words.{Some, state_at, StateValue, Status, StatusCounts, subst}
+use Rattle.psci_fw_state.proofs.Words.{suc, suspends, sym, TreeValue, Values, view_of}
+use Rattle.psci_fw_state.proofs.Words.{wish_unless, wished_claims, with_rest, ℕ}
+
+-- A claim is made and granted going up, one level after another -----------------------------------
+
+-- Where all cores are as they were --------------------------------------------------------------
+
+-- what is wanted stays
+pub wanted_kept : (b : BoardValue) (t u : TreeValue) (core level : ℕ) (wish : Wish)
+    → ((c : ℕ) → state_at u c ≡ state_at t c) → u.levels ≡ t.levels
+    → wanted b (view_of u) core wish level ≡ wanted b (view_of t) core wish level
+unfolding least_ask
+wanted_kept b t u core level Least cores levels = λ i. least_ask b (record (view_of t) {
+  ask = λ c l. if nat_le l (length (levels i)) then asks (cores c i).activity l else 0;
+}) (domain_of b core level)
+wanted_kept b t u core level (Own ask) cores levels = refl
+
+-- and the sum of the known starts
+pub generation_kept : (b : BoardValue) (t u : TreeValue) (core level : ℕ)
+    → ((c : ℕ) → state_at u c ≡ state_at t c)
+    → generation b (view_of u) (domain_of b core level)
+    ≡ generation b (view_of t) (domain_of b core level)
+unfolding generation
+generation_kept b t u core level cores = λ i. generation b (record (view_of t) {
+  known = λ c. (cores c i).known;
+}) (domain_of b core level)
+
+-- The part of a level ---------------------------------------------------------------------------
+
+-- a part that a claim was climbed by is the whole claim's at its level
+pub part_of_level : (b : BoardValue) (v : PowerView) (core : ℕ) (wished : ℕ → ℕ) (level : ℕ)
+    (parts : List Part) (part : Part) → length parts ≡ level
+    → IsClimbedTo b v core wished (level + 1) (parts ++ part ∷ [])
+    → slice_get (claims_of b v core wished) level ≡ Some part
+part_of_level b v core wished level parts part count c =
+    let rest : List Part = climb wished (λ l. generation b v (domain_of b core l)) (level + 1)
+    (height b + 1 - (level + 1)) in
+    let whole : parts ++ part ∷ rest ≡ claims_of b v core wished = rw append_assoc at c.rest in
+    let seam : part ≡ get_or (parts ++ part ∷ rest) level part =
+    sym (get_or-append_seam parts part rest part)
+    ∙ ap (λ n. get_or (parts ++ part ∷ rest) n part) count in
+    rw (← whole) (slice_get_read (parts ++ part ∷ rest) (length (parts ++ part ∷ rest)) level part
+    refl (omega (arith, length-append parts (part ∷ rest), count)) seam)
+
+-- above the system nothing more is claimed
+pub climbed_all : (b : BoardValue) (v : PowerView) (core : ℕ) (wished : ℕ → ℕ) (level : ℕ)
+    (parts : List Part) → IsClimbedTo b v core wished level parts → height b + 1 ≤ level
+    → parts ≡ claims_of b v core wished
+climbed_all b v core wished level parts c past =
+    let none : height b + 1 - level ≡ 0 = omega arith in
+    rw (none, append-nil) at c.rest
+
+-- What claims are made from is what the tree holds ------------------------------------------------
+
+pub active_by : (s : Status) (a : Activity) → activity_of (phase_by s a) ≡ a
+active_by s a = grind arith
+
+pub viewed : (s : StateValue) → IsState s → view_of s.tree ≡ view s.board (values_in s)
+unfolding view values_in
+viewed s is =
+    let at : (c : ℕ) → (state_at s.tree c).activity
+    ≡ activity_of (phase_by (row_at s.rows c).status (state_at s.tree c).activity) =
+    λ c. sym (active_by (row_at s.rows c).status (state_at s.tree c).activity) in
+    λ i. record {
+      ask = λ c level.
+          if nat_le level (length (is.levels i)) then asks (at c i) level else 0;
+      known = (view_of s.tree).known;
+      is_active = λ c. is_active (at c i);
+      is_away = λ c. is_away (at c i);
+      granted = (view_of s.tree).granted;
+    }
+
+-- Suspended -------------------------------------------------------------------------------------
+
+-- in platform-coordinated mode the least is claimed of what is asked once the core is suspended
+platform_wished : (b : BoardValue) (v w : Values) (c : ℕ) (ask : List ℕ) (opening : Opening)
+    (wish : Wish) → w ≡ with_rest c (suspends opening ask) v
+    → Ok wish ≡ asked_wish b (view b v) c ask Platform
+    → suspend_claims b v c ask Platform ≡ Ok (wished_claims b (view b w) c wish)
+unfolding view
+platform_wished b v w c ask opening Least is said = rw is refl
+platform_wished b v w c ask opening (Own own) is said = cc
+
+-- in OS-initiated mode its own ask, of which where a core goes on is no part
+own_wished : (b : BoardValue) (v w : Values) (c : ℕ) (ask : List ℕ) (opening : Opening)
+    (wish : Wish) (reason : Option Osi) → w ≡ with_rest c (suspends opening ask) v
+    → Ok wish ≡ wish_unless reason ask
+    → answer_by reason (own_claims b (view b v) c ask) ≡ Ok (wished_claims b (view b w) c wish)
+unfolding view claims_of generation
+own_wished b v w c ask opening Least None is said = cc
+own_wished b v w c ask opening (Own own) None is said =
+    let it : Ok (Own own) ≡ Ok (Own ask) = said in
+    let same : own ≡ ask = cc in
+    rw (is, same) refl
+own_wished b v w c ask opening wish (Some reason) is said = cc
+
+-- where nothing refuses it, the parts are those that the core wants once it is suspended
+pub suspend_wished : (b : BoardValue) (v w : Values) (c : ℕ) (ask : List ℕ) (opening : Opening)
+    (wish : Wish) (mode : SuspendMode) → w ≡ with_rest c (suspends opening ask) v
+    → Ok wish ≡ asked_wish b (view b v) c ask mode
+    → suspend_claims b v c ask mode ≡ Ok (wished_claims b (view b w) c wish)
+unfolding last_core_check
+suspend_wished b v w c ask opening wish Platform is said =
+    platform_wished b v w c ask opening wish is said
+suspend_wished b v w c ask opening wish OsInitiated is said =
+    own_wished b v w c ask opening wish (refusal b (view b v) (shallow b (view b v) c ask)) is said
+
+-- and else it is refused for the same reason
+refused_by : (ask : List ℕ) (parts : List Part) (e : Osi) (reason : Option Osi)
+    → Err e ≡ wish_unless reason ask → answer_by reason parts ≡ Err e
+refused_by ask parts e None said = cc
+refused_by ask parts e (Some reason) said =
+    let same : reason ≡ e = cc in
+    rw same refl
+
+pub suspend_refused : (b : BoardValue) (v : Values) (c : ℕ) (ask : List ℕ) (e : Osi)
+    (mode : SuspendMode) → Err e ≡ asked_wish b (view b v) c ask mode
+    → suspend_claims b v c ask mode ≡ Err e
+unfolding last_core_check
+suspend_refused b v c ask e Platform said = cc
+suspend_refused b v c ask e OsInitiated said =
+    refused_by ask (own_claims b (view b v) c ask) e
+    (refusal b (view b v) (shallow b (view b v) c ask)) said
+
+-- Kept counts -------------------------------------------------------------------------------------
 
 -- One domain -------------------------------------------------------------------------------------
 

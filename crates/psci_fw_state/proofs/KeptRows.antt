@@ -3,7 +3,7 @@
 use Rattle.std.proofs.Common.{◌≡◌, ℕ, ◌≤◌, List, [], ◌∷◌, length, true, None, Some, ap, arith}
 use Rattle.psci_board.specs.Board.{BoardValue, up}
 use Rattle.psci_messages.specs.declared.part.Part.{Part}
-use Rattle.psci_fw_spec.specs.psci_abi.declared.format.Format.TheVariants.{Original}
+use Rattle.psci_fw_spec.specs.psci_abi.declared.registers.Format.TheVariants.{Original}
 use Rattle.psci_fw_spec.specs.declared.mode.SuspendMode.TheVariants.{OsInitiated}
 use Rattle.psci_fw_spec.specs.declared.status.Status.TheVariants.{On, Off, Pending}
 use Rattle.psci_messages.specs.declared.kind.Kind.TheVariants as kinds

@@ -1,6 +1,6 @@
 -- The values of a state are those of a new firmware exactly where each test of them passes.
-use Rattle.std.proofs.Common.{◌≡◌, ◌≤◌, ◌<◌, ◌+◌, ◌==◌, ◌&&◌, not, ℕ, zero, suc, Bool, true, false}
-use Rattle.std.proofs.Common.{cond, refl, ap, sym, ◌∙◌, arith, inl, inr, Option, None, Some}
+use Rattle.std.proofs.Common.{◌&&◌, ◌+◌, ◌<◌, ◌==◌, ◌∙◌, ◌≡◌, ◌≤◌, ap, arith, Bool, cond, false}
+use Rattle.std.proofs.Common.{inl, inr, None, not, Option, refl, Some, suc, sym, true, zero, ℕ}
 use Rattle.std.specs.Prelude.{is_some, nat_lt}
 use Rattle.std.proofs.lemmas.Bool.{and_from, and_parts, cases_lt, eq-eqb, eqb-true, false≢true}
 use Rattle.std.proofs.lemmas.Bool.{le-leb, le-ltb, lt-ltb, ne_eqb, not-true}
@@ -11,27 +11,25 @@ use Rattle.psci_messages.specs.Slots.{Slot, message_in}
 use Rattle.psci_messages.specs.Slots.Slot.{OfCore, OfSystem}
 use Rattle.psci_state.specs.declared.cores.Activity.{Activity}
 use Rattle.psci_state.specs.declared.cores.Activity.TheVariants as activities
-use Rattle.psci_tree.specs.Recount.{TreeValue, granted_at, is_confirmed_at, never_started}
-use Rattle.psci_tree.specs.Recount.{state_at}
+use Rattle.psci_tree.specs.Recount.{granted_at, is_confirmed_at, never_started, state_at}
+use Rattle.psci_tree.specs.Recount.{TreeValue}
 use Rattle.psci_tree.specs.Standing.{on_path}
-use Rattle.psci_board.specs.declared.node.Node.{Node}
+use Rattle.psci_board.specs.declared.draft.Node.{Node}
 use Rattle.psci_tree.proofs.SavedRows.{all_range, at_range}
 use Rattle.psci_fw_spec.specs.declared.mode.SuspendMode.TheVariants.{Platform}
 use Rattle.psci_fw_spec.specs.declared.opening.Opening.{Opening}
 use Rattle.psci_fw_spec.specs.declared.status.Status.{Status}
 use Rattle.psci_fw_spec.specs.declared.status.Status.TheVariants.{On, Off, Pending}
-use Rattle.psci_fw_spec.specs.Lives.{first_opening, first_phase}
-use Rattle.psci_fw_spec.specs.Lives.{first_status, start_of_life}
+use Rattle.psci_fw_spec.specs.Changes.{first_opening, first_phase, first_status, start_of_life}
 use Rattle.psci_fw_spec.specs.Phases.{is_away}
 use Rattle.psci_fw_spec.specs.Values.{Values}
 use Rattle.psci_fw_state.specs.New.{are_first_depths, is_first_core, is_first_domain}
-use Rattle.psci_fw_state.specs.New.{is_first_level}
-use Rattle.psci_fw_state.specs.New.{is_first_opening, is_first_phase, is_first_status, is_new}
-use Rattle.psci_fw_state.specs.New.{is_silent}
+use Rattle.psci_fw_state.specs.New.{is_first_level, is_first_opening, is_first_phase}
+use Rattle.psci_fw_state.specs.New.{is_first_status, is_new, is_silent}
 use Rattle.psci_fw_state.specs.Rows.{first_row, row_at}
 use Rattle.psci_fw_state.specs.Seen.{IsState, StateValue, is_pending_phase, phase_by, values_in}
 use Rattle.psci_fw_state.proofs.Begun.{at_start, first_core, some_below}
-use Rattle.psci_fw_state.proofs.Changed.{eqb_swap}
+use Rattle.psci_fw_state.proofs.Moved.{eqb_swap}
 use Rattle.psci_fw_state.proofs.Sound.{no_core, platform_of}
 
 -- One core ---------------------------------------------------------------------------------------

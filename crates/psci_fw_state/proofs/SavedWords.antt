@@ -1,23 +1,37 @@
 -- The words of rows tell them, and are the words of rows.
-use Rattle.std.proofs.Common.{◌≡◌, ℕ, zero, suc, ◌+◌, ◌-◌, ◌*◌, ◌<◌, ◌≤◌, ◌==◌, ◌&&◌, Bool}
-use Rattle.std.proofs.Common.{true, false, List, [], ◌∷◌, ◌++◌, length, take, drop, get_or}
-use Rattle.std.proofs.Common.{set, flat_map, Option, Some, None, refl, ap, sym, ◌∙◌, arith}
-use Rattle.std.proofs.Common.{inl, inr}
-use Rattle.std.proofs.Common.{append-nil, append_assoc, ◌⊎◌}
+use Rattle.std.specs.List.{count_by, list_all}
 use Rattle.std.specs.Prelude.{nat_le}
+use Rattle.std.proofs.Common.{◌*◌, ◌++◌, ◌+◌, ◌<◌, ◌==◌, ◌∙◌, ◌∷◌, ◌≡◌, ◌≤◌, []}
+use Rattle.std.proofs.Common.{ap, arith, Bool, cond, drop, false}
+use Rattle.std.proofs.Common.{flat_map, get_or, length, List, map, None, Option, refl}
+use Rattle.std.proofs.Common.{Some, subst, sym, take, true, ℕ}
 use Rattle.std.proofs.Math.Seq.{drop-append_seam, take-append_seam}
-use Rattle.std.proofs.lemmas.Bool.{and_from, and_parts, eqb-true}
-use Rattle.std.proofs.lemmas.Bool.{leb-true}
-use Rattle.std.proofs.lemmas.Bool.{ne_eqb, or_cases}
-use Rattle.std.proofs.lemmas.List.{length-append, take_all, take_more, take_more_set}
-use Rattle.std.proofs.lemmas.List.Concat.{flat_map-append, flat_map-cons}
+use Rattle.std.proofs.lemmas.Bool.{and_from, le-leb, lt-ltb}
+use Rattle.std.proofs.lemmas.List.{length-append}
+use Rattle.std.proofs.lemmas.List.Concat.{flat_map-cons}
+use Rattle.std.proofs.lemmas.List.FromFn.{length-range_with_len}
+use Rattle.std.proofs.lemmas.Option.{none-some}
+use Rattle.psci_board.specs.Board.{below_in, BoardValue, cores, cores_below, domain_of, has_node}
+use Rattle.psci_board.specs.Board.{HasNode, HasNodeIn, height, span, SpanLaws, up}
+use Rattle.psci_board.specs.declared.draft.Node.{Node}
+use Rattle.psci_board.specs.declared.span.CoreSpan.{CoreSpan}
+use Rattle.psci_board.proofs.Paths.{inside as place_inside}
+use Rattle.psci_state.specs.PowerState.{least}
+use Rattle.psci_tree.specs.Recount.{ask_at, granted_at, is_away_at, low, off, TreeValue}
+use Rattle.psci_tree.specs.Standing.{on_path}
+use Rattle.psci_tree.proofs.Ranges.{all_counted, counted_both}
+use Rattle.psci_messages.specs.View.{is_all_away, least_ask, PowerView}
+use Rattle.psci_fw_spec.specs.PowerCalls.{status_code}
+use Rattle.psci_fw_spec.specs.Invariant.{view}
 use Rattle.psci_fw_spec.specs.declared.opening.Opening.{Opening}
 use Rattle.psci_fw_spec.specs.declared.status.Status.{Status}
-use Rattle.psci_fw_spec.specs.declared.status.Status.TheVariants.{On, Off, Pending}
-use Rattle.psci_fw_spec.specs.AffinityInfo.{status_code}
-use Rattle.psci_fw_state.specs.declared.row.CoreRow.{CoreRow}
-use Rattle.psci_fw_state.specs.Saved.{are_rows, is_row, opening_of, opening_words, row_words}
+use Rattle.psci_fw_spec.specs.declared.status.Status.TheVariants.{Off, On, Pending}
+use Rattle.psci_fw_state.specs.Saved.{are_rows, opening_of, opening_words, row_words}
 use Rattle.psci_fw_state.specs.Saved.{status_of}
+use Rattle.psci_fw_state.specs.Seen.{IsState, StateValue, values_in}
+use Rattle.psci_fw_state.specs.Sound.{is_depth, is_domain_awake}
+use Rattle.psci_fw_state.specs.declared.row.CoreRow.{CoreRow}
+use Rattle.psci_fw_state.proofs.KeptCounts.{viewed}
 
 -- One row ------------------------------------------------------------------------------------
 
@@ -34,136 +48,6 @@ many_rows (row ∷ rows) =
     ap (λ xs. length xs) (flat_map-cons row_words row rows)
     ∙ length-append (row_words row) (flat_map row_words rows)
     ∙ omega (arith, row_long row, many_rows rows)
-
--- what a row's words say
-pub record IsRow (s o a c : ℕ) : Type 0 where
-  pub status : s ≤ 2
-  pub opening : (o ≡ 1) ⊎ ((o ≡ 0) × (a ≡ 0) × (c ≡ 0))
-
-pub is_one : (s o a c : ℕ) → is_row s o a c ≡ true → IsRow s o a c
-is_one s o a c h =
-    let both = and_parts _ _ h in
-    record {
-      status = leb-true s 2 both.0;
-      opening = elim (or_cases (o == 1) (o == 0 && (a == 0 && c == 0)) both.1) [
-        | inl e ↦ inl (eqb-true o 1 e)
-        | inr e ↦
-            let none = and_parts _ _ e in
-            let zeros = and_parts _ _ none.1 in
-            inr (eqb-true o 0 none.0, eqb-true a 0 zeros.0, eqb-true c 0 zeros.1)
-      ];
-    }
-
-number_back : (n : ℕ) → n ≤ 2 → status_code (status_of n) ≡ n
-number_back zero h = refl
-number_back (suc zero) h = refl
-number_back (suc (suc zero)) h = refl
-number_back (suc (suc (suc n))) h = absurd (omega (arith, h))
-
-opening_back : (o a c : ℕ) → (o ≡ 1) ⊎ ((o ≡ 0) × (a ≡ 0) × (c ≡ 0))
-    → opening_words (opening_of o a c) ≡ o ∷ a ∷ c ∷ []
-opening_back o a c is = elim is [
-  | inl e ↦
-      ap (λ n. opening_words (opening_of n a c)) e ∙ ap (λ n. n ∷ a ∷ c ∷ []) (sym e)
-  | inr e ↦
-      ap (λ n. opening_words (opening_of n a c)) e.0
-      ∙ ap (λ n. n ∷ 0 ∷ 0 ∷ []) (sym e.0)
-      ∙ ap (λ n. o ∷ n ∷ 0 ∷ []) (sym e.1)
-      ∙ ap (λ n. o ∷ a ∷ n ∷ []) (sym e.2)
-]
-
--- a row is written as it was read
-pub row_back : (s o a c : ℕ) → is_row s o a c ≡ true
-    → row_words (record { status = status_of s; opening = opening_of o a c }) ≡ s ∷ o ∷ a ∷ c ∷ []
-row_back s o a c h =
-    let is = is_one s o a c h in
-    ap (λ n. n ∷ opening_words (opening_of o a c)) (number_back s is.status)
-    ∙ ap (λ ws. s ∷ ws) (opening_back o a c is.opening)
-
--- Slices -------------------------------------------------------------------------------------
-
--- the words behind the first four
-abbrev pub after_four : List ℕ → List ℕ
-after_four ws = take (length ws - 4) (drop 4 ws)
-
-pub four_first : (ws : List ℕ) → 4 ≤ length ws
-    → get_or ws 0 0 ∷ get_or ws 1 0 ∷ get_or ws 2 0 ∷ get_or ws 3 0 ∷ after_four ws ≡ ws
-four_first [] h = absurd (omega (arith, h))
-four_first (a ∷ []) h = absurd (omega (arith, h))
-four_first (a ∷ b ∷ []) h = absurd (omega (arith, h))
-four_first (a ∷ b ∷ c ∷ []) h = absurd (omega (arith, h))
-four_first (a ∷ b ∷ c ∷ d ∷ ws) h =
-    ap (λ xs. a ∷ b ∷ c ∷ d ∷ xs) (take_all (length (a ∷ b ∷ c ∷ d ∷ ws) - 4) ws (omega arith))
-
-pub rest_long : (ws : List ℕ) → 4 ≤ length ws → length (after_four ws) + 4 ≡ length ws
-rest_long ws h =
-    let is : length (get_or ws 0 0 ∷ get_or ws 1 0 ∷ get_or ws 2 0 ∷ get_or ws 3 0
-    ∷ after_four ws) ≡ length ws =
-    ap (λ (xs : List ℕ). length xs) (four_first ws h) in
-    omega (arith, is)
-
-abbrev pub first_is : List ℕ → Bool
-first_is ws = is_row (get_or ws 0 0) (get_or ws 1 0) (get_or ws 2 0) (get_or ws 3 0)
-
-pub rows_by : (ws : List ℕ) → 4 ≤ length ws
-    → are_rows ws ≡ (first_is ws && are_rows (after_four ws))
-rows_by ws h = ap are_rows (sym (four_first ws h))
-
--- one row more is looked at
-pub more_rows : (ws words : List ℕ) → 4 ≤ length ws → first_is ws ≡ true
-    → are_rows ws ≡ are_rows words → are_rows (after_four ws) ≡ are_rows words
-more_rows ws words h is e = sym (rows_by ws h ∙ ap (λ b. b && are_rows (after_four ws)) is) ∙ e
-
--- it is none
-pub no_row : (ws words : List ℕ) → 4 ≤ length ws → first_is ws ≡ false
-    → are_rows ws ≡ are_rows words → false ≡ are_rows words
-no_row ws words h is e = sym (rows_by ws h ∙ ap (λ b. b && are_rows (after_four ws)) is) ∙ e
-
--- fewer words than those of one row
-pub few_words : (ws : List ℕ) → length ws < 4 → (length ws == 0) ≡ are_rows ws
-few_words [] h = refl
-few_words (a ∷ []) h = ne_eqb (length (a ∷ [])) 0 (λ e. omega (arith, e))
-few_words (a ∷ b ∷ []) h = ne_eqb (length (a ∷ b ∷ [])) 0 (λ e. omega (arith, e))
-few_words (a ∷ b ∷ c ∷ []) h = ne_eqb (length (a ∷ b ∷ c ∷ [])) 0 (λ e. omega (arith, e))
-few_words (a ∷ b ∷ c ∷ d ∷ ws) h = absurd (omega (arith, h))
-
--- Lists --------------------------------------------------------------------------------------
-
--- the rows so far are written, with one more
-pub rows_saved : (rows : List CoreRow) (row : CoreRow) (k start : ℕ) (w v u : List ℕ)
-    → k < length rows → ((d : CoreRow) → get_or rows k d ≡ row)
-    → take (start + 4 * k) v ≡ take start w ++ flat_map row_words (take k rows)
-    → take (start + 4 * k + 4) u ≡ take (start + 4 * k) v ++ row_words row
-    → take (start + 4 * (k + 1)) u ≡ take start w ++ flat_map row_words (take (k + 1) rows)
-rows_saved rows row k start w v u low is before now =
-    let done = flat_map row_words (take k rows) in
-    let next : start + 4 * (k + 1) ≡ start + 4 * k + 4 = omega arith in
-    ap (λ n. take n u) next
-    ∙ now
-    ∙ ap (λ xs. xs ++ row_words row) before
-    ∙ append_assoc (take start w) done (row_words row)
-    ∙ ap (λ xs. take start w ++ xs)
-    (ap (λ xs. done ++ xs) (sym (flat_map-cons row_words row [] ∙ append-nil (row_words row)))
-    ∙ sym (flat_map-append row_words (take k rows) (row ∷ []))
-    ∙ ap (λ r. flat_map row_words (take k rows ++ r ∷ [])) (sym (is row))
-    ∙ ap (λ xs. flat_map row_words xs) (sym (take_more rows k row low)))
-
--- the rows so far are read, with one more
-pub rows_loaded : (rows : List CoreRow) (row : CoreRow) (k : ℕ) (rest words : List ℕ)
-    → k < length rows → 4 ≤ length rest
-    → row_words row ≡ get_or rest 0 0 ∷ get_or rest 1 0 ∷ get_or rest 2 0 ∷ get_or rest 3 0 ∷ []
-    → flat_map row_words (take k rows) ++ rest ≡ words
-    → flat_map row_words (take (k + 1) (set rows k row)) ++ after_four rest ≡ words
-rows_loaded rows row k rest words low four is before =
-    let done = flat_map row_words (take k rows) in
-    ap (λ xs. flat_map row_words xs ++ after_four rest) (take_more_set rows k row low)
-    ∙ ap (λ xs. xs ++ after_four rest) (flat_map-append row_words (take k rows) (row ∷ []))
-    ∙ ap (λ xs. (done ++ xs) ++ after_four rest)
-    (flat_map-cons row_words row [] ∙ append-nil (row_words row))
-    ∙ append_assoc done (row_words row) (after_four rest)
-    ∙ ap (λ xs. done ++ (xs ++ after_four rest)) is
-    ∙ ap (λ xs. done ++ xs) (four_first rest four)
-    ∙ before
 
 -- What is told -------------------------------------------------------------------------------
 
@@ -244,3 +128,104 @@ rows_good [] = refl
 rows_good (row ∷ rows) =
     ap are_rows (flat_map-cons row_words row rows)
     ∙ row_good row (flat_map row_words rows) (rows_good rows)
+
+-- What is tested of the domains on the path of a core, by what the tree and the rows hold ---------
+
+-- Below a domain ---------------------------------------------------------------------------------
+
+same_rest : (n m total : ℕ) → n + m ≡ total → (n == total) ≡ (m == 0)
+same_rest n m total e = grind arith
+
+-- the count of those that pass is all of them exactly where each one counts
+count_all : (p : ℕ → Bool) (xs : List ℕ) → (count_by p xs == length xs) ≡ list_all p xs
+count_all p xs = same_rest _ _ _ (counted_both p xs) ∙ sym (all_counted p xs)
+
+pub all_away : (s : StateValue) (n : Node) (k m : ℕ) → IsState s → SpanLaws s.board.levels
+    → HasNode s.board n → k ≡ off s.tree n → m ≡ (span s.board.levels n).count
+    → (k == m) ≡ is_all_away s.board (view s.board (values_in s)) n
+unfolding off is_all_away
+all_away s n k m is laws has e f =
+    let below = below_in s.board.levels n in
+    let many : length below ≡ (span s.board.levels n).count =
+    ap (λ (xs : List ℕ). length xs) (laws.cores n has) ∙ length-range_with_len _ _ in
+    ap (λ i. i == m) (e ∙ ap (λ ls. count_by (λ c. is_away_at s.tree c) (below_in ls n)) is.levels)
+    ∙ ap (λ i. count_by (λ c. is_away_at s.tree c) below == i) (f ∙ sym many)
+    ∙ count_all (λ c. is_away_at s.tree c) below
+    ∙ ap (λ (v : PowerView). list_all v.is_away below) (viewed s is)
+
+pub low_least : (s : StateValue) (n : Node) → IsState s
+    → low s.tree n n.level ≡ least_ask s.board (view s.board (values_in s)) n
+unfolding low least_ask
+low_least s n is =
+    ap (λ ls. least (map (λ c. ask_at s.tree c n.level) (below_in ls n))) is.levels
+    ∙ ap (λ (v : PowerView). least (map (λ c. v.ask c n.level) (below_in s.board.levels n)))
+    (viewed s is)
+
+-- The span of a domain ---------------------------------------------------------------------------
+
+span_in : CoreSpan → Option CoreSpan → CoreSpan
+span_in d None = d
+span_in d (Some x) = x
+
+pub span_of : (b : BoardValue) (n : Node) (x : CoreSpan) → Some x ≡ cores_below b n
+    → x ≡ span b.levels n
+unfolding span_in
+span_of b n x e = by (has_node b n) e
+  where
+    by : (t : Bool) → Some x ≡ cond t (Some (span b.levels n)) None → x ≡ span b.levels n
+    by true f = ap (span_in x) f
+    by false f = absurd (none-some x (sym f))
+
+pub has_span : (b : BoardValue) (n : Node) → HasNode b n → None ≡ cores_below b n → ⊥
+has_span b n has e =
+    let there : has_node b n ≡ true =
+    and_from _ _ (le-leb _ _ has.level) (lt-ltb _ _ has.place) in
+    none-some (span b.levels n) (e ∙ ap (λ t. cond t (Some (span b.levels n)) None) there)
+
+-- A domain on the path of a core -----------------------------------------------------------------
+
+module _ (s : StateValue) (c level : ℕ) (is : IsState s) (inside : c < cores s.board)
+    (low_level : level ≤ height s.board) (t : TreeValue) (tree : t ≡ s.tree) (n : Node)
+    (e : n ≡ on_path t.levels c level) where
+  here : n ≡ domain_of s.board c level
+  unfolding up
+  here =
+      e
+      ∙ ap (λ (x : TreeValue). on_path x.levels c level) tree
+      ∙ ap (λ ls. on_path ls c level) is.levels
+
+  -- it is one of the board's
+  pub node_here : HasNode s.board n
+  unfolding up
+  node_here =
+      subst (HasNode s.board) (sym here) (record {
+        level = low_level;
+        place = place_inside s.board.levels level c is.board.tree inside low_level;
+      })
+
+  -- and so one of the tree's
+  pub node_in : (u : TreeValue) → u ≡ s.tree → HasNodeIn u.levels n
+  node_in u same =
+      subst (λ ls. HasNodeIn ls n)
+      (sym (ap (λ (x : TreeValue). x.levels) same ∙ is.levels)) node_here
+
+  -- what it is granted is what is looked at
+  pub depth_here : (u w : TreeValue) (granted asked : ℕ) (away : Bool) → u ≡ s.tree → w ≡ s.tree
+      → granted ≡ granted_at u n.level n.place → asked ≡ low w n level
+      → away ≡ is_all_away s.board (view s.board (values_in s)) n
+      → is_depth s.mode away asked granted ≡ is_domain_awake s.board (values_in s) c level
+  unfolding values_in
+  depth_here u w granted asked away same other g a f =
+      let m = domain_of s.board c level in
+      let granted_is : granted ≡ granted_at s.tree level m.place =
+      g
+      ∙ ap (λ (x : TreeValue). granted_at x n.level n.place) same
+      ∙ ap (λ (k : Node). granted_at s.tree k.level k.place) here in
+      let asked_is : asked ≡ least_ask s.board (view s.board (values_in s)) m =
+      a
+      ∙ ap (λ (x : TreeValue). low x n level) other
+      ∙ ap (λ k. low s.tree k level) here
+      ∙ low_least s m is in
+      let away_is : away ≡ is_all_away s.board (view s.board (values_in s)) m =
+      f ∙ ap (is_all_away s.board (view s.board (values_in s))) here in
+      λ i. is_depth s.mode (away_is i) (asked_is i) (granted_is i)

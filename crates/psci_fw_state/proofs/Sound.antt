@@ -1,29 +1,78 @@
 -- The values of a state are such as the firmware keeps exactly where each of its cores is sound.
-use Rattle.std.proofs.Common.{◌≡◌, ◌≤◌, ◌<◌, ◌+◌, ◌||◌, not, ℕ, Bool, true, false}
-use Rattle.std.proofs.Common.{refl, ap, sym, arith, inl, inr, length, subst}
-use Rattle.std.specs.Prelude.{is_some}
+use Rattle.std.specs.Prelude.{is_some, nat_le}
+use Rattle.std.proofs.Common.{◌+◌, ◌<◌, ◌||◌, ◌∙◌, ◌≡◌, ◌≤◌, ap, arith, Bool, false, inl, inr}
+use Rattle.std.proofs.Common.{length, List, not, refl, subst, sym, true, ℕ}
 use Rattle.std.proofs.lemmas.Bool.{and_from, and_parts, cases_lt, eq-eqb, eqb-true, false≢true}
 use Rattle.std.proofs.lemmas.Bool.{le-leb, leb-true}
 use Rattle.std.proofs.lemmas.List.{get_or_past}
 use Rattle.psci_board.specs.Board.{BoardValue, cores, height, place_above, size_below, up}
-use Rattle.psci_messages.specs.View.{domain_of, is_all_away}
+use Rattle.psci_state.specs.PowerState.{highest_of, is_deep}
+use Rattle.psci_state.specs.Cores.{asks}
 use Rattle.psci_state.specs.declared.cores.Activity.{Activity}
 use Rattle.psci_state.specs.declared.cores.Activity.TheVariants as activities
-use Rattle.psci_tree.specs.Recount.{IsActivity, granted_at, never_started, state_at}
+use Rattle.psci_tree.specs.Recount.{granted_at, IsActivity, never_started, state_at, TreeValue}
 use Rattle.psci_tree.proofs.SavedRows.{all_range, at_range}
-use Rattle.psci_fw_spec.specs.declared.mode.SuspendMode.{SuspendMode}
-use Rattle.psci_fw_spec.specs.declared.mode.SuspendMode.TheVariants.{Platform, OsInitiated}
-use Rattle.psci_fw_spec.specs.declared.status.Status.{Status}
-use Rattle.psci_fw_spec.specs.declared.status.Status.TheVariants.{On, Off, Pending}
-use Rattle.psci_fw_spec.specs.Invariant.{AreAwake, AreValues, IsPhase, agrees, is_expected}
-use Rattle.psci_fw_spec.specs.Phases.{Phase}
+use Rattle.psci_messages.specs.View.{domain_of, is_all_away}
+use Rattle.psci_fw_spec.specs.Invariant.{agrees, AreAwake, AreValues, ask, is_expected, IsPhase}
+use Rattle.psci_fw_spec.specs.Invariant.{view}
 use Rattle.psci_fw_spec.specs.Phases as phases
+use Rattle.psci_fw_spec.specs.Phases.{Phase}
 use Rattle.psci_fw_spec.specs.Values.{Values}
-use Rattle.psci_fw_spec.specs.Views.{ask, view}
+use Rattle.psci_fw_spec.specs.declared.mode.SuspendMode.{SuspendMode}
+use Rattle.psci_fw_spec.specs.declared.mode.SuspendMode.TheVariants.{OsInitiated, Platform}
+use Rattle.psci_fw_spec.specs.declared.status.Status.{Status}
+use Rattle.psci_fw_spec.specs.declared.status.Status.TheVariants.{Off, On, Pending}
 use Rattle.psci_fw_state.specs.Rows.{off_row, row_at}
-use Rattle.psci_fw_state.specs.Seen.{IsState, StateValue, phase_by, values_in}
+use Rattle.psci_fw_state.specs.Seen.{IsState, phase_by, StateValue, values_in}
 use Rattle.psci_fw_state.specs.Sound.{is_core_awake, is_core_sound, is_domain_awake, is_low}
 use Rattle.psci_fw_state.specs.Sound.{is_platform, is_same, is_sound}
+use Rattle.psci_fw_state.proofs.KeptCounts.{active_by}
+
+-- What is tested of one core, by what it does and its status --------------------------------------
+
+pub low_suspended : (b : BoardValue) (s : Status) (ask : List ℕ)
+    → is_low b (phase_by s (activities.Suspended ask)) ≡ nat_le (highest_of ask) (height b)
+low_suspended b On ask = refl
+low_suspended b Off ask = refl
+low_suspended b Pending ask = refl
+
+pub low_active : (b : BoardValue) (s : Status) → is_low b (phase_by s activities.Active) ≡ true
+low_active b On = refl
+low_active b Off = refl
+low_active b Pending = refl
+
+pub low_away : (b : BoardValue) (s : Status) → is_low b (phase_by s activities.Away) ≡ true
+low_away b On = refl
+low_away b Off = refl
+low_away b Pending = refl
+
+pub expected_suspended : (s : Status) (ask : List ℕ)
+    → is_expected (phase_by s (activities.Suspended ask)) ≡ is_deep ask
+expected_suspended On ask = refl
+expected_suspended Off ask = refl
+expected_suspended Pending ask = refl
+
+pub expected_away : (s : Status) → is_expected (phase_by s activities.Away) ≡ false
+expected_away On = refl
+expected_away Off = refl
+expected_away Pending = refl
+
+-- what search needs of them
+pub ruleset low_by = (low_suspended, low_active, low_away)
+
+pub ruleset expected_by = (expected_suspended, expected_away)
+
+-- what a core asks of itself
+pub own_asked : (s : StateValue) (t : TreeValue) (c : ℕ) (a : Activity) → t ≡ s.tree
+    → a ≡ (state_at t c).activity → asks a 0 ≡ ask s.board (values_in s) c 0
+unfolding values_in
+own_asked s t c a e f =
+    rw (le-leb 0 (height s.board) (omega arith)) (ap (λ x. asks x 0)
+    (f
+    ∙ ap (λ (x : TreeValue). (state_at x c).activity) e
+    ∙ sym (active_by (row_at s.rows c).status (state_at s.tree c).activity)))
+
+-- Sound -------------------------------------------------------------------------------------------
 
 -- Tests ------------------------------------------------------------------------------------------
 

@@ -14,20 +14,16 @@ pub use Rattle.std.proofs.lemmas.List.Sums.{sum_by-cons}
 pub use Rattle.std.proofs.lemmas.Option.{slice_get-get_or, slice_get_past}
 pub use Rattle.std.specs.List.{count_by, list_any, range_with_len, sum_by}
 pub use Rattle.psci_board.specs.Board.{below_in, BoardValue, cores, HasNodeIn, height, IsTree}
-pub use Rattle.psci_board.specs.Board.{nodes, place_above, size_below, up}
-pub use Rattle.psci_board.specs.Laws.{PathLaws}
-pub use Rattle.psci_board.specs.declared.node.Node.{Node}
-pub use Rattle.psci_fw_spec.specs.AffinityInfo.{is_on, is_pending_status}
-pub use Rattle.psci_fw_spec.specs.Changes.{confirms_on, turns_off, with_phase, with_rest}
-pub use Rattle.psci_fw_spec.specs.Confirmed.{applied_part, claimed_anew, is_made_at, unconfirmed}
+pub use Rattle.psci_board.specs.Board.{nodes, PathLaws, place_above, size_below, up}
+pub use Rattle.psci_board.specs.declared.draft.Node.{Node}
+pub use Rattle.psci_fw_spec.specs.PowerCalls.{is_off_status, is_on, is_pending_status}
+pub use Rattle.psci_fw_spec.specs.Changes.{applied_part, claimed_anew, confirms_on, in_life}
+pub use Rattle.psci_fw_spec.specs.Changes.{is_made_at, turns_off, unconfirmed, with_phase}
+pub use Rattle.psci_fw_spec.specs.Changes.{with_rest}
 pub use Rattle.psci_fw_spec.specs.Effects.{suspends}
-pub use Rattle.psci_fw_spec.specs.Invariant.{agrees}
-pub use Rattle.psci_fw_spec.specs.Lives.{in_life}
-pub use Rattle.psci_fw_spec.specs.Paths.{cleared, granted_with}
+pub use Rattle.psci_fw_spec.specs.Invariant.{agrees, view}
+pub use Rattle.psci_fw_spec.specs.Values.{cleared, granted_with, updated, Values}
 pub use Rattle.psci_fw_spec.specs.Phases.{is_away, is_suspended_or_pending, Phase, unless_pending}
-pub use Rattle.psci_fw_spec.specs.SystemCalls.{is_off_status}
-pub use Rattle.psci_fw_spec.specs.Values.{updated, Values}
-pub use Rattle.psci_fw_spec.specs.Views.{view}
 pub use Rattle.psci_fw_spec.specs.declared.mode.SuspendMode.TheVariants.{Platform}
 pub use Rattle.psci_fw_spec.specs.declared.opening.Opening.{Opening}
 pub use Rattle.psci_fw_spec.specs.declared.status.Status.{Status}
@@ -42,8 +38,7 @@ pub use Rattle.psci_fw_state.specs.Wishes.{asked_wish, wish_unless, wished_claim
 pub use Rattle.psci_fw_state.specs.contracts.state.State.{the_view}
 pub use Rattle.psci_fw_state.specs.declared.counts.StatusCounts.{StatusCounts}
 pub use Rattle.psci_fw_state.specs.declared.row.CoreRow.{CoreRow}
-pub use Rattle.psci_messages.specs.Claim.{own_claims}
-pub use Rattle.psci_messages.specs.LastCore.{refusal, shallow}
+pub use Rattle.psci_messages.specs.Claim.{own_claims, refusal, shallow}
 pub use Rattle.psci_messages.specs.Looked.{view_of}
 pub use Rattle.psci_messages.specs.Message.{AckValue, MessageValue}
 pub use Rattle.psci_messages.specs.Slots.{answered, changed, IsOfCores, message_in, Slot, slot_of}
@@ -54,6 +49,6 @@ pub use Rattle.psci_messages.specs.declared.start.Start.{Start}
 pub use Rattle.psci_messages.specs.declared.taken.Taken.TheVariants.{Used}
 pub use Rattle.psci_state.specs.declared.cores.Activity.{Activity}
 pub use Rattle.psci_state.specs.declared.cores.CoreState.{CoreState}
-pub use Rattle.psci_tree.proofs.Slices.{size_few}
+pub use Rattle.psci_tree.proofs.Seen.{size_few}
 pub use Rattle.psci_tree.specs.Recount.{granted_at, is_active, is_confirmed_at, IsDomainTree}
 pub use Rattle.psci_tree.specs.Recount.{known_at, never_started, off, state_at, TreeValue}

@@ -3,7 +3,7 @@ use Rattle.std.specs.Prelude.{◌≡◌, ◌≤◌, ◌<◌, ◌+◌, ℕ, List,
 use Rattle.psci_board.specs.Board.{BoardValue, cores, height, up}
 use Rattle.psci_messages.specs.declared.part.Part.{Part}
 use Rattle.psci_messages.specs.Message.{AreClaims}
-use Rattle.psci_fw_spec.specs.Paths.{granted_with}
+use Rattle.psci_fw_spec.specs.Values.{granted_with}
 
 -- The parts of a core may be granted: they are of levels of the board, nothing is granted on the
 -- core's path, and once they are, no domain is granted more than the one below it on a path.

@@ -1,11 +1,10 @@
 -- Which of the claims on a core's path are the last ones on their domains.
 use Rattle.std.specs.Prelude.{ℕ, Bool, ◌&&◌, nat_lt, List, slice_get}
 use Rattle.std.specs.List.{sum_by}
-use Rattle.psci_board.specs.Board.{BoardValue, below}
-use Rattle.psci_board.specs.Paths.{is_path_place}
+use Rattle.psci_board.specs.Board.{below, BoardValue, is_path_place}
 use Rattle.psci_messages.specs.declared.part.Part.{Part}
 use Rattle.psci_tree.specs.Recount.{TreeValue, granted_at, known_at}
-use Rattle.psci_fw_spec.specs.Confirmed.{is_made_at}
+use Rattle.psci_fw_spec.specs.Changes.{is_made_at}
 
 -- the part of this level is of the last claim on the domain of the core's path: something is still
 -- granted, and no core below has entered since

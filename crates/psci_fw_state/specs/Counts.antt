@@ -1,12 +1,12 @@
 -- How many of the cores below each power domain are ON, and how many ON_PENDING.
-use Rattle.std.specs.Prelude.{◌≡◌, ℕ, ◌+◌, ◌-◌, ◌^◌, ◌<◌, ◌≤◌, List, [], length, drop, nat_lt}
-use Rattle.std.specs.Prelude.{if◌then◌else◌, slice_index_or, slice_set}
+use Rattle.std.specs.Prelude.{◌+◌, ◌-◌, ◌<◌, ◌^◌, ◌≡◌, ◌≤◌, [], drop, if◌then◌else◌, length}
+use Rattle.std.specs.Prelude.{List, nat_lt, slice_index_or, slice_set, ℕ}
 use Rattle.std.specs.List.{count_by}
-use Rattle.psci_board.specs.declared.node.Node.{Node}
+use Rattle.psci_board.specs.declared.draft.Node.{Node}
 use Rattle.psci_board.specs.Board.{BoardValue, IsBoard, below_in, cores, size_below}
 use Rattle.psci_fw_spec.specs.declared.status.Status.{Status}
 use Rattle.psci_fw_spec.specs.declared.status.Status.TheVariants.{On, Off, Pending}
-use Rattle.psci_fw_spec.specs.AffinityInfo.{is_on, is_pending_status}
+use Rattle.psci_fw_spec.specs.PowerCalls.{is_on, is_pending_status}
 use Rattle.psci_fw_state.specs.declared.counts.StatusCounts.{StatusCounts}
 use Rattle.psci_fw_state.specs.declared.row.CoreRow.{CoreRow}
 

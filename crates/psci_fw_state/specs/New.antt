@@ -1,10 +1,9 @@
 -- Which values are those of a new firmware: before any core has entered, as a life begins.
-use Rattle.std.specs.Prelude.{ℕ, ◌==◌, ◌+◌, ◌&&◌, not, Bool, true, false, is_some, Option, None}
-use Rattle.std.specs.Prelude.{Some, if◌then◌else◌}
+use Rattle.std.specs.Prelude.{◌&&◌, ◌+◌, ◌==◌, Bool, false, if◌then◌else◌, is_some, None, not}
+use Rattle.std.specs.Prelude.{Option, Some, true, ℕ}
 use Rattle.std.specs.List.{list_all, range_with_len}
-use Rattle.psci_board.specs.Board.{BoardValue, cores, height, nodes}
-use Rattle.psci_board.specs.Paths.{is_path_place}
-use Rattle.psci_state.specs.Ask.{power_down, running}
+use Rattle.psci_board.specs.Board.{BoardValue, cores, height, is_path_place, nodes}
+use Rattle.psci_state.specs.PowerState.{power_down, running}
 use Rattle.psci_fw_spec.specs.declared.opening.Opening.{Opening}
 use Rattle.psci_fw_spec.specs.declared.status.Status.{Status}
 use Rattle.psci_fw_spec.specs.declared.status.Status.TheVariants.{On, Off, Pending}

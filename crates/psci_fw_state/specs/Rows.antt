@@ -3,7 +3,7 @@ use Rattle.std.specs.Prelude.{◌≡◌, ℕ, ◌<◌, List, length, slice_index
 use Rattle.psci_board.specs.Board.{BoardValue, cores}
 use Rattle.psci_fw_spec.specs.declared.status.Status.{Status}
 use Rattle.psci_fw_spec.specs.declared.status.Status.TheVariants.{Off}
-use Rattle.psci_fw_spec.specs.Lives.{first_status, first_opening}
+use Rattle.psci_fw_spec.specs.Changes.{first_status, first_opening}
 use Rattle.psci_fw_state.specs.declared.row.CoreRow.{CoreRow}
 
 -- a core that is off and goes on nowhere

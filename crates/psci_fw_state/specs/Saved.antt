@@ -1,19 +1,18 @@
 -- The state of the firmware as words of 64 bits, and the first fault of words that are none.
-use Rattle.std.specs.Prelude.{◌≡◌, ℕ, ◌+◌, ◌*◌, ◌==◌, ◌||◌, ◌&&◌, not, nat_lt, nat_le, Bool, true}
-use Rattle.std.specs.Prelude.{false, List, [], ◌∷◌, ◌++◌, length, take, drop, flat_map}
-use Rattle.std.specs.Prelude.{if◌then◌else◌, Option, None, Some}
+use Rattle.std.specs.Prelude.{◌&&◌, ◌*◌, ◌++◌, ◌+◌, ◌==◌, ◌||◌, ◌∷◌, ◌≡◌, [], Bool, drop, false}
+use Rattle.std.specs.Prelude.{flat_map, if◌then◌else◌, length, List, nat_le, nat_lt, None, not}
+use Rattle.std.specs.Prelude.{Option, Some, take, true, ℕ}
 use Rattle.psci_board.specs.Board.{BoardValue, cores}
 use Rattle.psci_messages.specs.Saved.{AreKept, are_slots, slots_words}
 use Rattle.psci_messages.specs.Sum.{sum_from}
-use Rattle.psci_tree.specs.Recount.{TreeValue, confirmed_at, granted_at, is_confirmed_at}
-use Rattle.psci_tree.specs.Saved.{AreCounted, are_cores, are_depths, core_words, depth_words}
+use Rattle.psci_tree.specs.Saved.{are_cores, are_depths, AreCounted, core_words, depth_words}
 use Rattle.psci_tree.specs.Saved.{domain_count}
 use Rattle.psci_fw_spec.specs.declared.mode.SuspendMode.{SuspendMode}
 use Rattle.psci_fw_spec.specs.declared.mode.SuspendMode.TheVariants.{Platform, OsInitiated}
 use Rattle.psci_fw_spec.specs.declared.opening.Opening.{Opening}
 use Rattle.psci_fw_spec.specs.declared.status.Status.{Status}
 use Rattle.psci_fw_spec.specs.declared.status.Status.TheVariants.{On, Off, Pending}
-use Rattle.psci_fw_spec.specs.AffinityInfo.{status_code}
+use Rattle.psci_fw_spec.specs.PowerCalls.{status_code}
 use Rattle.psci_fw_state.specs.declared.fault.SavedFault.{SavedFault}
 use Rattle.psci_fw_state.specs.declared.fault.SavedFault.TheVariants as faults
 use Rattle.psci_fw_state.specs.declared.row.CoreRow.{CoreRow}
@@ -73,14 +72,26 @@ are_rows (s ∷ o ∷ []) = false
 are_rows (s ∷ o ∷ a ∷ []) = false
 are_rows (s ∷ o ∷ a ∷ c ∷ ws) = is_row s o a c && are_rows ws
 
+-- the words of each part: the cores, the domains, the rows, the slots
+abbrev pub core_part : BoardValue → List ℕ → List ℕ
+core_part b ws = take (2 * cores b) ws
+
+abbrev pub depth_part : BoardValue → List ℕ → List ℕ
+depth_part b ws = take (2 * domain_count b.levels) (drop (2 * cores b) ws)
+
+abbrev pub row_part : BoardValue → List ℕ → List ℕ
+row_part b ws = take (4 * cores b) (drop (2 * domain_count b.levels) (drop (2 * cores b) ws))
+
+abbrev pub slot_part : BoardValue → List ℕ → List ℕ
+slot_part b ws = drop (4 * cores b) (drop (2 * domain_count b.levels) (drop (2 * cores b) ws))
+
 -- the first fault of the parts
 abbrev pub part_fault : BoardValue → List ℕ → Option SavedFault
 part_fault b ws =
-    let n = 2 * cores b in let d = 2 * domain_count b.levels in let r = 4 * cores b in
-    if not (are_cores (take n ws)) then Some faults.Core
-    else (if not (are_depths b.levels (take d (drop n ws))) then Some faults.Depth
-    else (if not (are_rows (take r (drop d (drop n ws)))) then Some faults.Row
-    else (if not (are_slots (cores b + 1) (drop r (drop d (drop n ws)))) then Some faults.Message
+    if not (are_cores (core_part b ws)) then Some faults.Core
+    else (if not (are_depths b.levels (depth_part b ws)) then Some faults.Depth
+    else (if not (are_rows (row_part b ws)) then Some faults.Row
+    else (if not (are_slots (cores b + 1) (slot_part b ws)) then Some faults.Message
     else None)))
 
 -- the first fault of words as a saved state of this board's firmware

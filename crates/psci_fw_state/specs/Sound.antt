@@ -3,14 +3,13 @@ use Rattle.std.specs.Prelude.{ℕ, ◌==◌, ◌+◌, ◌&&◌, ◌||◌, not, n
 use Rattle.std.specs.List.{list_all, range_with_len}
 use Rattle.psci_board.specs.Board.{BoardValue, cores, height, up}
 use Rattle.psci_messages.specs.View.{domain_of, is_all_away, least_ask}
-use Rattle.psci_state.specs.Ask.{highest_of, power_down}
+use Rattle.psci_state.specs.PowerState.{highest_of, power_down}
 use Rattle.psci_fw_spec.specs.declared.mode.SuspendMode.{SuspendMode}
 use Rattle.psci_fw_spec.specs.declared.mode.SuspendMode.TheVariants.{Platform, OsInitiated}
-use Rattle.psci_fw_spec.specs.Invariant.{agrees, is_expected}
+use Rattle.psci_fw_spec.specs.Invariant.{agrees, ask, is_expected, view}
 use Rattle.psci_fw_spec.specs.Phases.{Phase}
 use Rattle.psci_fw_spec.specs.Phases as phases
 use Rattle.psci_fw_spec.specs.Values.{Values}
-use Rattle.psci_fw_spec.specs.Views.{ask, view}
 
 -- whether both hold, or neither
 abbrev pub is_same : Bool → Bool → Bool

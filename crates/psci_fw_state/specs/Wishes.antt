@@ -3,15 +3,14 @@ use Rattle.std.specs.Prelude.{ℕ, List, Option, None, Some, Result, Ok, Err}
 use Rattle.psci_board.specs.Board.{BoardValue}
 use Rattle.psci_messages.specs.declared.osi.Osi.{Osi}
 use Rattle.psci_messages.specs.declared.part.Part.{Part}
-use Rattle.psci_messages.specs.Claim.{claims_of}
-use Rattle.psci_messages.specs.LastCore.{refusal, shallow}
+use Rattle.psci_messages.specs.Claim.{claims_of, refusal, shallow}
 use Rattle.psci_messages.specs.View.{PowerView}
 use Rattle.psci_coord.specs.Wish.{wanted}
 use Rattle.psci_coord.specs.declared.claim.Wish.{Wish}
 use Rattle.psci_coord.specs.declared.claim.Wish.TheVariants.{Least, Own}
 use Rattle.psci_fw_spec.specs.declared.mode.SuspendMode.{SuspendMode}
 use Rattle.psci_fw_spec.specs.declared.mode.SuspendMode.TheVariants.{Platform, OsInitiated}
-use Rattle.psci_fw_spec.specs.Views.{view}
+use Rattle.psci_fw_spec.specs.Invariant.{view}
 use Rattle.psci_fw_state.specs.Seen.{StateValue, values_in}
 
 -- the claim of a core that wants this

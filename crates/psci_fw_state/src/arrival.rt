@@ -3,8 +3,7 @@
 ghost use Rattle.std.specs.Prelude.{◌≡◌, ◌<◌, ◌==◌, ℕ, length, if◌then◌else◌};
 ghost use Rattle.psci_board.specs.Board.{cores};
 ghost use Rattle.psci_tree.specs.Recount.{IsDomainTree, state_at};
-ghost use Rattle.psci_fw_spec.specs.Changes.{with_arrival, with_phase, with_running};
-ghost use Rattle.psci_fw_spec.specs.Lives.{in_life};
+ghost use Rattle.psci_fw_spec.specs.Changes.{in_life, with_arrival, with_phase, with_running};
 ghost use Rattle.psci_fw_spec.specs.Phases.{Away};
 ghost use Rattle.psci_fw_state.specs.Seen.{stopped, values_in};
 ghost use Rattle.psci_fw_state.specs.Trees.{ClearsPath};

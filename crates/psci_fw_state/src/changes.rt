@@ -5,12 +5,11 @@ ghost use Rattle.psci_board.specs.Board.{cores};
 ghost use Rattle.psci_messages.specs.declared.kind.Kind.TheVariants as kinds;
 ghost use Rattle.psci_messages.specs.declared.taken.Taken.TheVariants.{Used, Old};
 ghost use Rattle.psci_messages.specs.Slots.{IsOfCores, slot_of};
-ghost use Rattle.psci_fw_spec.specs.Changes.{turns_off, with_acknowledgement, with_halt};
-ghost use Rattle.psci_fw_spec.specs.Changes.{with_mode};
+ghost use Rattle.psci_fw_spec.specs.Changes.{turns_off, with_acknowledgement, with_halt, with_mode};
 ghost use Rattle.psci_fw_spec.specs.Changes.{with_pending, with_phase, with_rest};
 ghost use Rattle.psci_fw_spec.specs.Effects.{suspends};
 ghost use Rattle.psci_fw_spec.specs.Phases.{Away};
-ghost use Rattle.psci_fw_spec.specs.Taking.{taken_by};
+ghost use Rattle.psci_fw_spec.specs.Values.{taken_by};
 ghost use Rattle.psci_fw_state.specs.Seen.{IsRunningCore, values_in};
 
 use crate::confirm::{applied_of, confirm_parts};

@@ -1,21 +1,17 @@
 //! What a core that stops claims of its power domains.
 
-ghost use Rattle.std.specs.Prelude.{◌≡◌, ◌<◌, ℕ, IfOk, MatchResult, OnErr};
-ghost use Rattle.std.specs.Prelude.{Err, Ok};
+ghost use Rattle.std.specs.Prelude.{◌<◌, ◌≡◌, Err, IfOk, MatchResult, Ok, OnErr, ℕ};
 ghost use Rattle.psci_board.specs.Board.{cores};
-ghost use Rattle.psci_messages.specs.Claim.{off_claims, own_claims};
-ghost use Rattle.psci_messages.specs.LastCore.{refusal, shallow};
+ghost use Rattle.psci_messages.specs.Claim.{off_claims, own_claims, refusal, shallow};
 ghost use Rattle.psci_messages.specs.declared.kind.Kind.TheVariants as kinds;
 ghost use Rattle.psci_messages.specs.Looked.{view_of};
 ghost use Rattle.psci_messages.specs.Message.{ArePartsOf};
 ghost use Rattle.psci_tree.specs.Recount.{granted_at, is_confirmed_at};
-ghost use Rattle.psci_fw_spec.specs.Changes.{with_claims, with_rest};
-ghost use Rattle.psci_fw_spec.specs.Claims.{leaving_claims, suspend_parts};
-ghost use Rattle.psci_fw_spec.specs.Confirmed.{claimed_anew};
+ghost use Rattle.psci_fw_spec.specs.Changes.{claimed_anew, with_claims, with_rest};
+ghost use Rattle.psci_fw_spec.specs.PowerCalls.{leaving_claims, message_for, suspend_parts};
 ghost use Rattle.psci_fw_spec.specs.Effects.{suspends};
-ghost use Rattle.psci_fw_spec.specs.Outcomes.{message_for};
-ghost use Rattle.psci_fw_spec.specs.Paths.{granted_with};
-ghost use Rattle.psci_fw_spec.specs.Views.{view};
+ghost use Rattle.psci_fw_spec.specs.Values.{granted_with};
+ghost use Rattle.psci_fw_spec.specs.Invariant.{view};
 ghost use Rattle.psci_fw_state.specs.Claims.{IsGrantable};
 ghost use Rattle.psci_fw_state.specs.Wishes.{asked_wish, wished_claims, wished_in};
 ghost use Rattle.psci_fw_state.specs.Seen.{IsRunningCore, values_in};

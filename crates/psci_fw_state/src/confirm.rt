@@ -1,11 +1,11 @@
 //! What an acknowledgement confirms.
 
-ghost use Rattle.std.specs.Prelude.{◌≡◌, ◌≤◌, ◌<◌, ◌==◌, ◌&&◌, ℕ, true, nat_lt, None, Some};
-ghost use Rattle.std.specs.Prelude.{slice_get, if◌then◌else◌};
+ghost use Rattle.std.specs.Prelude.{◌&&◌, ◌<◌, ◌==◌, ◌≡◌, ◌≤◌, if◌then◌else◌, nat_lt, None};
+ghost use Rattle.std.specs.Prelude.{slice_get, Some, true, ℕ};
 ghost use Rattle.psci_board.specs.Board.{HasNodeIn, cores};
-ghost use Rattle.psci_tree.specs.Recount.{IsDomainTree, granted_at, is_confirmed_at};
+ghost use Rattle.psci_tree.specs.Recount.{granted_at, is_confirmed_at, IsDomainTree};
 ghost use Rattle.psci_tree.specs.Recount.{known as known_of};
-ghost use Rattle.psci_fw_spec.specs.Confirmed.{applied_part, is_made_at};
+ghost use Rattle.psci_fw_spec.specs.Changes.{applied_part, is_made_at};
 ghost use Rattle.psci_fw_state.specs.Confirming.{is_last_claim};
 ghost use Rattle.psci_fw_state.specs.Trees.{IsTreeOf, KeepsGranted};
 

@@ -4,10 +4,9 @@ ghost use Rattle.std.specs.Prelude.{◌≡◌, ◌+◌, ◌<◌, ◌≤◌, leng
 ghost use Rattle.psci_board.specs.Board.{IsBoard, cores};
 ghost use Rattle.psci_fw_spec.specs.declared.status.Status.TheVariants.{Off};
 ghost use Rattle.psci_fw_spec.specs.Values.{updated};
-ghost use Rattle.psci_fw_state.specs.Counts.{AreCounted, AreCounts, HasDomains, MayRecount};
-ghost use Rattle.psci_fw_state.specs.Counts.{counts_at};
-ghost use Rattle.psci_fw_state.specs.Counts.{level_counts, no_cores, one_core, recounted};
-ghost use Rattle.psci_fw_state.specs.Counts.{status_counted, with_counts};
+ghost use Rattle.psci_fw_state.specs.Counts.{AreCounted, AreCounts, counts_at, HasDomains};
+ghost use Rattle.psci_fw_state.specs.Counts.{level_counts, MayRecount, no_cores, one_core};
+ghost use Rattle.psci_fw_state.specs.Counts.{recounted, status_counted, with_counts};
 ghost use Rattle.psci_fw_state.specs.Rows.{AreFirst, row_at, status_at};
 
 use crate::row::CoreRow;

@@ -1,7 +1,7 @@
 //! The status of a power domain, by what is counted of the cores below it.
 
 ghost use Rattle.std.specs.Prelude.{◌≡◌};
-ghost use Rattle.psci_fw_spec.specs.AffinityInfo.{node_status};
+ghost use Rattle.psci_fw_spec.specs.PowerCalls.{node_status};
 ghost use Rattle.psci_fw_state.specs.Seen.{values_in};
 
 use crate::counts::status_below;

@@ -4,9 +4,8 @@ ghost use Rattle.std.specs.Prelude.{◌≡◌, ◌<◌, ◌≤◌, ◌+◌};
 ghost use Rattle.std.specs.List.{list_all, range_with_len};
 ghost use Rattle.psci_board.specs.Board.{HasNode, cores, height};
 ghost use Rattle.psci_fw_state.specs.New.{are_first_depths, is_first_core, is_first_domain};
-ghost use Rattle.psci_fw_state.specs.New.{is_first_level};
-ghost use Rattle.psci_fw_state.specs.New.{is_first_opening, is_first_phase, is_first_status};
-ghost use Rattle.psci_fw_state.specs.New.{is_new, is_silent};
+ghost use Rattle.psci_fw_state.specs.New.{is_first_level, is_first_opening, is_first_phase};
+ghost use Rattle.psci_fw_state.specs.New.{is_first_status, is_new, is_silent};
 ghost use Rattle.psci_fw_state.specs.Seen.{values_in};
 
 use crate::state::State;
@@ -34,12 +33,7 @@ impl State {
         ensures { result ≡ list_all (is_first_core self.now.board (values_in self.now))
             (range_with_len 0 (cores self.now.board)) }
     {
-        for number in 0..self.board.cores() {
-            if !self.is_first_core(Core { number }) {
-                return false;
-            }
-        }
-        true
+        (0..self.board.cores()).all(|number| self.is_first_core(Core { number }))
     }
 
     /// Whether one core is.
@@ -69,12 +63,7 @@ impl State {
         ensures { result ≡ list_all (is_first_level self.now.board (values_in self.now))
             (range_with_len 0 (height self.now.board + 1)) }
     {
-        for level in 0..self.board.height() + 1 {
-            if !self.is_first_level(level) {
-                return false;
-            }
-        }
-        true
+        (0..self.board.height() + 1).all(|level| self.is_first_level(level))
     }
 
     /// Whether each domain of one level is.
@@ -82,12 +71,7 @@ impl State {
         requires { level ≤ height self.now.board }
         ensures { result ≡ is_first_level self.now.board (values_in self.now) level }
     {
-        for place in 0..self.board.nodes(level) {
-            if !self.is_first_domain(Node { level, place }) {
-                return false;
-            }
-        }
-        true
+        (0..self.board.nodes(level)).all(|place| self.is_first_domain(Node { level, place }))
     }
 
     /// Whether one domain is.
@@ -108,12 +92,7 @@ impl State {
         ensures { result ≡ list_all (is_silent self.now.board (values_in self.now))
             (range_with_len 0 (cores self.now.board + 1)) }
     {
-        for number in 0..self.board.cores() + 1 {
-            if !self.is_silent(number) {
-                return false;
-            }
-        }
-        true
+        (0..self.board.cores() + 1).all(|number| self.is_silent(number))
     }
 
     /// Whether none waits of the core of this number, or of the system at the number of cores.

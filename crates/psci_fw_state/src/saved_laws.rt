@@ -3,7 +3,7 @@
 ghost use Rattle.std.specs.Prelude.{◌≡◌, ◌≤◌, ◌+◌, None, length, true};
 ghost use Rattle.psci_board.specs.Board.{BoardValue};
 ghost use Rattle.psci_fw_spec.specs.Invariant.{AreValues};
-ghost use Rattle.psci_fw_spec.specs.Lives.{start_of_life};
+ghost use Rattle.psci_fw_spec.specs.Changes.{start_of_life};
 ghost use Rattle.psci_fw_spec.specs.Values.{Values};
 ghost use Rattle.psci_fw_state.specs.New.{is_new};
 ghost use Rattle.psci_fw_state.specs.Saved.{IsSavable, part_count, saved, saved_fault};

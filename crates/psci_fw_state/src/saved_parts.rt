@@ -1,14 +1,13 @@
 //! The state's own words: its heading, and the rows of its cores.
 
-ghost use Rattle.std.specs.Prelude.{◌≡◌, ◌≤◌, ◌+◌, ◌*◌, ◌++◌, ◌∷◌, [], true, flat_map, length, map};
-ghost use Rattle.std.specs.Prelude.{take};
+ghost use Rattle.std.specs.Prelude.{◌*◌, ◌++◌, ◌+◌, ◌∷◌, ◌≡◌, ◌≤◌, [], flat_map, length, map, take};
+ghost use Rattle.std.specs.Prelude.{true};
 ghost use Rattle.psci_board.specs.Board.{cores};
 ghost use Rattle.psci_fw_state.specs.Counts.{AreCounted, AreCounts};
 ghost use Rattle.psci_fw_state.specs.Rows.{status_at};
 ghost use Rattle.psci_fw_state.specs.Saved.{are_rows, flag, is_row, mode_number, mode_of};
-ghost use Rattle.psci_fw_state.specs.Saved.{opening_of};
-ghost use Rattle.psci_fw_state.specs.Saved.{row_words, status_of};
-ghost use Rattle.psci_fw_spec.specs.AffinityInfo.{status_code};
+ghost use Rattle.psci_fw_state.specs.Saved.{opening_of, row_words, status_of};
+ghost use Rattle.psci_fw_spec.specs.PowerCalls.{status_code};
 
 use crate::counts::{StatusCounts, put_row};
 use crate::row::CoreRow;

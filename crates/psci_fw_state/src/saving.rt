@@ -1,8 +1,9 @@
 //! The state of the firmware as words, and words as a state.
 
 ghost use Rattle.std.specs.Prelude.{◌≡◌, ◌≤◌, ◌^◌, None, Some, length, IfOk, MatchResult, OnErr};
-ghost use Rattle.psci_fw_state.specs.Saved.{IsSavable, KeepsHeading, part_count, part_fault};
-ghost use Rattle.psci_fw_state.specs.Saved.{part_words, saved, saved_fault};
+ghost use Rattle.psci_fw_state.specs.Saved.{core_part, depth_part, IsSavable, KeepsHeading};
+ghost use Rattle.psci_fw_state.specs.Saved.{part_count, part_fault, part_words, row_part, saved};
+ghost use Rattle.psci_fw_state.specs.Saved.{saved_fault, slot_part};
 ghost use Rattle.psci_fw_state.specs.Seen.{IsState};
 
 use crate::fault::SavedFault;
@@ -102,10 +103,7 @@ impl State {
         ensures parts { part_words self.new ≡ words.now }
         ensures rest { KeepsHeading self.old self.new }
     {
-        let count = self.board.cores() as usize;
-        let (cores, rest) = words.split_at(CORE_WORDS * count);
-        let (depths, rest) = rest.split_at(DOMAIN_WORDS * self.tree.domain_count());
-        let (rows, slots) = rest.split_at(ROW_WORDS * count);
+        let (cores, depths, rows, slots) = self.parts(words);
         self.tree.load_cores(cores);
         self.tree.load_depths(depths);
         load_rows(
@@ -151,22 +149,34 @@ impl State {
         ensures { let fault = part_fault self.now.board words.now in
             MatchResult result (λ _. fault ≡ None) (λ e. fault ≡ Some e) }
     {
-        let count = self.board.cores() as usize;
-        let (cores, rest) = words.split_at(CORE_WORDS * count);
+        let (cores, depths, rows, slots) = self.parts(words);
         if !are_cores(cores) {
             return Err(SavedFault::Core);
         }
-        let (depths, rest) = rest.split_at(DOMAIN_WORDS * self.tree.domain_count());
         if !self.tree.are_depths(depths) {
             return Err(SavedFault::Depth);
         }
-        let (rows, slots) = rest.split_at(ROW_WORDS * count);
         if !are_rows(rows) {
             return Err(SavedFault::Row);
         }
-        if !are_slots(count + 1, slots) {
+        if !are_slots(self.board.cores() as usize + 1, slots) {
             return Err(SavedFault::Message);
         }
         Ok(())
+    }
+
+    /// The words of the cores, of the domains, of the rows and of the slots.
+    fn parts<'a>(&self, words: &'a [u64]) -> (&'a [u64], &'a [u64], &'a [u64], &'a [u64])
+        requires { length words.now ≡ part_count self.now.board }
+        ensures cores { result.0.now ≡ core_part self.now.board words.now }
+        ensures depths { result.1.now ≡ depth_part self.now.board words.now }
+        ensures rows { result.2.now ≡ row_part self.now.board words.now }
+        ensures slots { result.3.now ≡ slot_part self.now.board words.now }
+    {
+        let count = self.board.cores() as usize;
+        let (cores, rest) = words.split_at(CORE_WORDS * count);
+        let (depths, rest) = rest.split_at(DOMAIN_WORDS * self.tree.domain_count());
+        let (rows, slots) = rest.split_at(ROW_WORDS * count);
+        (cores, depths, rows, slots)
     }
 }

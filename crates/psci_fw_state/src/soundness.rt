@@ -4,12 +4,11 @@ ghost use Rattle.std.specs.Prelude.{◌≡◌, ◌<◌, ◌≤◌, is_some};
 ghost use Rattle.psci_board.specs.Board.{HasNode, cores, height};
 ghost use Rattle.psci_messages.specs.View.{is_all_away};
 ghost use Rattle.psci_state.specs.Cores.{asks};
-ghost use Rattle.psci_fw_spec.specs.Invariant.{agrees, is_expected};
-ghost use Rattle.psci_fw_spec.specs.Views.{ask, view};
+ghost use Rattle.psci_fw_spec.specs.Invariant.{agrees, ask, is_expected, view};
 ghost use Rattle.psci_fw_state.specs.Seen.{phase_by, values_in};
-ghost use Rattle.psci_fw_state.specs.Sound.{is_core_awake, is_core_kept, is_core_sound};
-ghost use Rattle.psci_fw_state.specs.Sound.{is_depth, is_domain_awake, is_low, is_path_awake};
-ghost use Rattle.psci_fw_state.specs.Sound.{is_same, is_sound};
+ghost use Rattle.psci_fw_state.specs.Sound.{is_core_awake, is_core_kept, is_core_sound, is_depth};
+ghost use Rattle.psci_fw_state.specs.Sound.{is_domain_awake, is_low, is_path_awake, is_same};
+ghost use Rattle.psci_fw_state.specs.Sound.{is_sound};
 
 use crate::state::State;
 use psci_board::{Core, Node, law_spans};
@@ -23,12 +22,7 @@ impl State {
     pub fn is_sound(&self) -> bool
         ensures { result ≡ is_sound self.now.board (values_in self.now) }
     {
-        for number in 0..self.board.cores() {
-            if !self.is_core_sound(Core { number }) {
-                return false;
-            }
-        }
-        true
+        (0..self.board.cores()).all(|number| self.is_core_sound(Core { number }))
     }
 
     /// Whether one core is.
@@ -65,7 +59,7 @@ impl State {
     }
 
     /// Whether it asks nothing above the board's height.
-    #[tactic(auto, unfolding(crate::specs::Seen::values_in), using(crate::proofs::OneCore::low_by))]
+    #[tactic(auto, unfolding(crate::specs::Seen::values_in), using(crate::proofs::Sound::low_by))]
     fn is_low(&self, core: Core) -> bool
         requires { core.number < cores self.now.board }
         ensures { result ≡ is_low self.now.board ((values_in self.now).phase core.number) }
@@ -103,12 +97,7 @@ impl State {
         requires { core.number < cores self.now.board }
         ensures { result ≡ is_path_awake self.now.board (values_in self.now) core.number }
     {
-        for level in 0..self.board.height() + 1 {
-            if !self.is_domain_awake(core, level) {
-                return false;
-            }
-        }
-        true
+        (0..self.board.height() + 1).all(|level| self.is_domain_awake(core, level))
     }
 
     /// Whether one of them was: power-down where all cores below it are away, and the least ask
@@ -173,7 +162,7 @@ fn agrees(status: Status, activity: Activity) -> bool
 }
 
 /// Whether a core goes on at an opening when it next enters.
-#[tactic(auto, using(crate::proofs::OneCore::expected_by))]
+#[tactic(auto, using(crate::proofs::Sound::expected_by))]
 fn is_expected(status: Status, activity: Activity) -> bool
     ensures { result ≡ is_expected (phase_by status activity) }
 {

@@ -60,8 +60,8 @@ impl Model for State {
 }
 
 ghost use Rattle.std.specs.Prelude.{◌≡◌, ◌<◌, None, Some, IfOk, MatchResult, option_map};
-ghost use Rattle.psci_fw_spec.specs.Calls.{call_fault};
-ghost use Rattle.psci_fw_spec.specs.Lives.{start_of_life};
+ghost use Rattle.psci_fw_spec.specs.Answer.{call_fault};
+ghost use Rattle.psci_fw_spec.specs.Changes.{start_of_life};
 ghost use Rattle.psci_fw_spec.specs.NodeHwState.{node_hw};
 ghost use Rattle.psci_fw_spec.specs.Phases.{is_away, is_resumable, is_running};
 ghost use Rattle.psci_board.specs.Board.{IsBoard, cores};

@@ -5,7 +5,7 @@ ghost use Rattle.std.specs.List.{list_any, range_with_len};
 ghost use Rattle.psci_board.specs.Board.{cores, height};
 ghost use Rattle.psci_fw_spec.specs.Invariant.{agrees};
 ghost use Rattle.psci_fw_spec.specs.Phases.{is_away, is_suspended_or_pending};
-ghost use Rattle.psci_fw_spec.specs.SystemCalls.{all_others, is_off_status};
+ghost use Rattle.psci_fw_spec.specs.PowerCalls.{all_others, is_off_status};
 ghost use Rattle.psci_fw_state.specs.Counts.{counts_below};
 ghost use Rattle.psci_fw_state.specs.Seen.{values_in};
 

@@ -14,11 +14,10 @@ use Rattle.psci_world_spec.specs.declared.place.Place.TheVariants.{Started}
 use Rattle.psci_world_spec.specs.declared.said.Record.{Record}
 use Rattle.psci_world_spec.specs.declared.said.Said.{Said}
 use Rattle.psci_world_spec.specs.declared.said.Said.TheVariants.{Absent, Fw}
-use Rattle.psci_world_spec.specs.Legal.{run_from}
-use Rattle.psci_world_spec.specs.Places.{place}
+use Rattle.psci_world_spec.specs.Legal.{place, run_from}
 use Rattle.psci_world_spec.proofs.Scripts as scripts
-use Rattle.psci_world_spec.proofs.Scripts.{acked, board, call, off, on_3, system_off, tall, value}
-use Rattle.psci_world_spec.proofs.Scripts.{version}
+use Rattle.psci_world_spec.proofs.Scripts.{acked, board, call, off, on_3, system_off, tall}
+use Rattle.psci_world_spec.proofs.Scripts.{value, version}
 use Rattle.psci_headline.proofs.Untold.{computing}
 use Rattle.psci_headline.proofs.Words.{nat_tests}
 use Rattle.psci_guest.specs.declared.arrival.Arrival.{Arrival}

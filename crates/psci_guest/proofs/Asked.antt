@@ -1,27 +1,57 @@
 -- What an exchange leaves in which the firmware is asked: a call, or an entry.
-use Rattle.psci_headline.proofs.Words.{◌++◌, ◌<◌, ◌∙◌, ◌≡◌, ap}
-use Rattle.psci_headline.proofs.Words.{BoardValue, change}
-use Rattle.psci_headline.proofs.Words.{controller_values, cores, Down, Effect}
-use Rattle.psci_headline.proofs.Words.{Event, false}
-use Rattle.psci_headline.proofs.Words.{firmware_values, in_life, inl, inr}
-use Rattle.psci_headline.proofs.Words.{is_system, IsAllowed, IsLegalPast, Kind, legal, length, List}
-use Rattle.psci_headline.proofs.Words.{listed, MessageValue, None, none-some}
-use Rattle.psci_headline.proofs.Words.{OfCore, Option, option_map}
-use Rattle.psci_headline.proofs.Words.{Record, refl, same_Some}
-use Rattle.psci_headline.proofs.Words.{sent_in, serving, slot_of, Some, step}
-use Rattle.psci_headline.proofs.Words.{subst, sym, Values, ℕ}
-use Rattle.psci_headline.specs.psci_fw_spec.Said as spoken
-use Rattle.psci_ctl_spec.specs.psci_messages.declared.kind.Kind.TheVariants as kinds
 use Rattle.psci_ctl_spec.specs.Values as controlled
-use Rattle.psci_headline.proofs.Agreeing.{found_own}
-use Rattle.psci_headline.proofs.Standing.{settled_life, SettleLaws}
-use Rattle.psci_world_spec.specs.Histories.{sent}
-use Rattle.psci_guest.specs.Turns.{core_started, started_by}
-use Rattle.psci_guest.specs.Turns.{exchange, number_in}
-use Rattle.psci_guest.proofs.Landing.{AllEntered, AreHome, HasLanded, IsComing}
+use Rattle.psci_ctl_spec.specs.psci_messages.declared.kind.Kind.TheVariants as kinds
+use Rattle.psci_world_spec.specs.Legal.{sent}
+use Rattle.psci_headline.specs.psci_fw_spec.Effects as spoken
+use Rattle.psci_headline.proofs.Controls.{found_own}
+use Rattle.psci_headline.proofs.Nexts.{settled_life, SettleLaws}
+use Rattle.psci_headline.proofs.Words.{◌++◌, ◌<◌, ◌∙◌, ◌≡◌, ◌⊎◌, Act, ap, arith, Arrival}
+use Rattle.psci_headline.proofs.Words.{arrived, BoardValue, change, cond-true, controller_values}
+use Rattle.psci_headline.proofs.Words.{cores, Down, Effect, enter_effect, eq-eqb, Event, false}
+use Rattle.psci_headline.proofs.Words.{firmware_values, in_life, inl, inr, is_system, IsAllowed}
+use Rattle.psci_headline.proofs.Words.{IsLegalPast, Kind, legal, length, List, listed}
+use Rattle.psci_headline.proofs.Words.{MessageValue, nat_tests, None, none-some, OfCore, Option}
+use Rattle.psci_headline.proofs.Words.{option_map, Record, refl, same_Some, sent_in, serving}
+use Rattle.psci_headline.proofs.Words.{Slot, slot_of, Some, Start, step, subst, sym, Values, ℕ}
+use Rattle.psci_guest.specs.Turns.{core_started, exchange, number_in, started_by}
+use Rattle.psci_guest.proofs.Served.{AllEntered, AreHome, down_landed, HasLanded, IsComing}
+use Rattle.psci_guest.proofs.Served.{IsSent, start_landed, system_landed}
 use Rattle.psci_guest.proofs.Numbers.{numbered, same_listed}
-use Rattle.psci_guest.proofs.Served.{down_landed, IsSent, start_landed, system_landed}
-use Rattle.psci_guest.proofs.Slots.{AllIn, halts_by, now_out, still_out}
+
+-- What an effect of the firmware leaves outstanding, and whether the life halts -------------------
+
+-- each core that enters does so in this life
+abbrev pub AllIn : Effect → ℕ → Type 0
+AllIn e life = (a : Arrival) → arrived e ≡ Some a → a.start.life ≡ life
+
+-- what is outstanding was sent now, or was so before
+pub still_out : (b : BoardValue) (v : Values) (e : Effect) (life : ℕ) (slot : Slot)
+    (m : MessageValue) → AllIn e life → (change b e v).life ≡ life
+    → (change b e v).outstanding slot ≡ Some m
+    → (spoken.sent e ≡ Some m) ⊎ ((in_life b life v).outstanding slot ≡ Some m)
+still_out b v e life slot m arrives own at = grind (arith, nat_tests, found_own)
+
+-- what was sent is outstanding
+pub now_out : (b : BoardValue) (v : Values) (e : Effect) (m : MessageValue)
+    → spoken.sent e ≡ Some m → (change b e v).outstanding (slot_of m.kind m.core) ≡ Some m
+now_out b v e m sends = grind (arith, nat_tests, cond-true, eq-eqb)
+
+-- where a life comes to halt, a message for the system was sent
+pub halts_by : (b : BoardValue) (v : Values) (e : Effect) (life : ℕ) (o : Option MessageValue)
+    → AllIn e life → (change b e v).life ≡ life → (in_life b life v).halting ≡ false
+    → IsAllowed b v e → spoken.sent e ≡ o
+    → ((m : MessageValue) → o ≡ Some m → is_system m.kind ≡ false)
+    → (change b e v).halting ≡ false
+halts_by b v e life o arrives own awake allowed sends plain =
+    grind (arith, nat_tests, found_own)
+
+-- a core that enters sends a Down, or nothing
+pub parks_by : (b : BoardValue) (v : Values) (c : ℕ) (s : Start) (act : Act)
+    (o : Option MessageValue) (m : MessageValue) → IsAllowed b v (enter_effect c s act o)
+    → spoken.sent (enter_effect c s act o) ≡ Some m → m.kind ≡ Down
+parks_by b v c s act o m allowed sends = grind (arith, nat_tests)
+
+-- Asked -------------------------------------------------------------------------------------------
 
 -- The firmware is asked ---------------------------------------------------------------------------
 

@@ -12,7 +12,7 @@ use Rattle.psci_messages.specs.declared.kind.Kind.{Kind}
 use Rattle.psci_messages.specs.declared.kind.Kind.TheVariants as kinds
 use Rattle.psci_world_spec.specs.declared.place.Place.TheVariants.{Started}
 use Rattle.psci_world_spec.specs.declared.said.Record.{Record}
-use Rattle.psci_world_spec.specs.Places.{place}
+use Rattle.psci_world_spec.specs.Legal.{place}
 use Rattle.psci_world_spec.proofs.Scripts as scripts
 use Rattle.psci_world_spec.proofs.Scripts.{board, tall}
 use Rattle.psci_guest.specs.declared.arrival.Arrival.{Arrival}

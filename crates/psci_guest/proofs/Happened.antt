@@ -1,29 +1,30 @@
 -- What each event that begins an exchange leaves: a call, an entry, a wake-up, a reset.
-use Rattle.psci_headline.proofs.Words.{◌++◌, ◌<◌, ◌∙◌, ◌∷◌, ◌≡◌, ◌⊎◌, Act, ap, arith, Arrival}
-use Rattle.psci_headline.proofs.Words.{arrived, BoardValue, Call, cases_eq, cond-false}
-use Rattle.psci_headline.proofs.Words.{controller_values, cores}
-use Rattle.psci_headline.proofs.Words.{Enter, enter_effect, Event}
-use Rattle.psci_headline.proofs.Words.{firmware_legal, firmware_values, in_life, inl, inr}
-use Rattle.psci_headline.proofs.Words.{IsLegalPast, List, listed, MessageValue}
-use Rattle.psci_headline.proofs.Words.{nat_tests, ne_eqb, None, OfCore, Option, place_after, Record}
-use Rattle.psci_headline.proofs.Words.{refl, Regs, Reset, Said, same_Some, sent_messages}
-use Rattle.psci_headline.proofs.Words.{serving, Some, Start, Started, step, subst, sym, values_more}
-use Rattle.psci_headline.proofs.Words.{Values, Wake, ℕ}
-use Rattle.psci_headline.specs.psci_fw_spec.Said as spoken
-use Rattle.psci_ctl_spec.specs.Changes.{after}
-use Rattle.psci_ctl_spec.specs.Effects.{effect_of}
+use Rattle.psci_ctl_spec.specs.Replies.{after, effect_of}
+use Rattle.psci_ctl_spec.specs.Values as controlled
+use Rattle.psci_world_spec.specs.Legal.{controller_history, firmware_history, legal, place, sent}
+use Rattle.psci_world_spec.specs.Legal.{sent_in}
+use Rattle.psci_headline.specs.psci_fw_spec.Effects as spoken
+use Rattle.psci_headline.proofs.Controls.{found_other, found_own}
 use Rattle.psci_headline.proofs.Beginning.{arrives, HasEntered, HaveArrived, same_control}
-use Rattle.psci_headline.proofs.Moves.{FirmwareLaws, Moves, moves}
-use Rattle.psci_headline.proofs.Placing.{last_is}
-use Rattle.psci_headline.proofs.Standing.{SettleLaws}
-use Rattle.psci_world_spec.specs.Histories.{sent_in, controller_history, firmware_history, sent}
-use Rattle.psci_world_spec.specs.Legal.{legal}
-use Rattle.psci_world_spec.specs.Places.{place}
-use Rattle.psci_guest.specs.Turns.{started_by}
-use Rattle.psci_guest.specs.Turns.{exchange, number_in}
-use Rattle.psci_guest.proofs.Asked.{asked_landed, IsAsked, stays}
-use Rattle.psci_guest.proofs.Landing.{AllEntered, AreHome, AreIn, HasLanded, IsComing}
-use Rattle.psci_guest.proofs.Slots.{parks_by}
+use Rattle.psci_headline.proofs.Moves.{FirmwareLaws, last_is, Moves, moves}
+use Rattle.psci_headline.proofs.Nexts.{SettleLaws}
+use Rattle.psci_headline.proofs.Words.{◌++◌, ◌<◌, ◌==◌, ◌∙◌, ◌∷◌, ◌≡◌, ◌≤◌, ◌⊎◌, Act, and_parts}
+use Rattle.psci_headline.proofs.Words.{ap, arith, Arrival, arrived, BoardValue, Bool, Call}
+use Rattle.psci_headline.proofs.Words.{cases_eq, cond-false, controller_values, cores, Enter}
+use Rattle.psci_headline.proofs.Words.{enter_effect, eq-eqb, eqb-true, Event, false}
+use Rattle.psci_headline.proofs.Words.{firmware_legal, firmware_values, in_life, inl, inr}
+use Rattle.psci_headline.proofs.Words.{IsLegalPast, last_start, le-leb, leb-true, List, listed}
+use Rattle.psci_headline.proofs.Words.{MessageValue, nat_tests, ne_eqb, None, none-some, OfCore}
+use Rattle.psci_headline.proofs.Words.{Option, place_after, Record, refl, Regs, Reset, Said}
+use Rattle.psci_headline.proofs.Words.{same_Some, sent_messages, serving, Some, Start, Started}
+use Rattle.psci_headline.proofs.Words.{step, Stopped, subst, sym, true, Values, values_more}
+use Rattle.psci_headline.proofs.Words.{Wake, ℕ}
+use Rattle.psci_guest.specs.Arrivals.{kept_after}
+use Rattle.psci_guest.specs.Pair.{is_known, Kept, waiting_in}
+use Rattle.psci_guest.specs.Turns.{Calls, event_of, exchange, number_in, Resets, started_by}
+use Rattle.psci_guest.specs.Turns.{Turn, Wakes}
+use Rattle.psci_guest.proofs.Asked.{asked_landed, IsAsked, parks_by, stays}
+use Rattle.psci_guest.proofs.Served.{AllEntered, AreHome, AreIn, HasLanded, IsComing}
 
 -- What is known of a board.
 pub record TurnLaws (b : BoardValue) : Type 0 where
@@ -176,3 +177,130 @@ kick_landed b life past event c kick is coming entered =
           });
       others = λ x on ne e. entered x on (sym (left.place x ne) ∙ e);
     })
+
+-- Without a life nothing happens ------------------------------------------------------------------
+
+-- The system is off.
+pub record IsOver (b : BoardValue) (past : List Record) : Type 0 where
+  pub legal : IsLegalPast b past
+  pub over : (controller_values b past).life ≡ None
+
+-- then every core stands
+pub stands : (b : BoardValue) (past : List Record) (x : ℕ) → TurnLaws b → IsOver b past
+    → place b past x ≡ Stopped
+stands b past x laws is = (laws.settle.past past is.legal).given.agreed.stopped is.over x
+
+none_called : (b : BoardValue) (past : List Record) (c : ℕ) (regs : Regs)
+    → place b past c ≡ Stopped → number_in (legal b past (Call c regs)) ≡ None
+unfolding legal
+none_called b past c regs at = grind (arith, nat_tests)
+
+-- an event of which nothing comes
+nothing : (b : BoardValue) (past : List Record) (event : Event) → TurnLaws b → IsOver b past
+    → number_in (legal b past event) ≡ None
+    → (controller_values b (step b past event)).life ≡ None
+    → HasLanded b None (exchange b past event)
+unfolding exchange
+nothing b past event laws is none over =
+    let next : List Record = step b past event in
+    let off : IsOver b next = record { legal = (refl, is.legal); over = over } in
+    subst (λ k. HasLanded b None (serving b next k)) (sym none) (record {
+      legal = off.legal;
+      coming = λ l present. absurd (none-some l (sym over ∙ present));
+      others = λ x on e.
+          let no : Stopped ≡ Started = sym (stands b next x laws off) ∙ e in absurd (cc);
+    })
+
+kicked : (b : BoardValue) (past : List Record) (event : Event) (c : ℕ) → IsKick event c
+    → TurnLaws b → IsOver b past → HasLanded b None (exchange b past event)
+kicked b past event c kick laws is =
+    nothing b past event laws is (none_sent b past event c kick)
+    ((kicks b past event (legal b past event) c kick).life ∙ is.over)
+
+pub over_landed : (b : BoardValue) (past : List Record) (t : Turn) → TurnLaws b → IsOver b past
+    → HasLanded b None (exchange b past (event_of t))
+over_landed b past (Calls c regs) laws is =
+    nothing b past (Call c regs) laws is (none_called b past c regs (stands b past c laws is))
+    (ap (λ (u : controlled.Values). u.life) (call_control b past c regs) ∙ is.over)
+over_landed b past (Wakes c) laws is = kicked b past (Wake c) c (inl refl) laws is
+over_landed b past (Resets c) laws is = kicked b past (Reset c) c (inr refl) laws is
+
+-- A core is at its start exactly where the firmware does not know of its last one -----------------
+
+-- What a core that is to enter waits with.
+record IsNew (k : Kept) (c : ℕ) (s : Start) : Type 0 where
+  pub last : last_start k.controller c ≡ Some s
+  pub unknown : is_known k c s ≡ false
+
+waits : (k : Kept) (c : ℕ) (s : Start) → waiting_in k c ≡ Some s → IsNew k c s
+waits k c s e = grind (arith, nat_tests)
+
+some_number : (u : controlled.Values) (c : ℕ) (s : Start) → last_start u c ≡ Some s → 0 < s.number
+some_number u c s e = grind (arith, nat_tests)
+
+not_known : (k : Kept) (c : ℕ) (s : Start) → is_known k c s ≡ false → s.life ≡ k.firmware.life
+    → k.firmware.known c < s.number
+not_known k c s e same = grind (arith, nat_tests, eq-eqb, le-leb)
+
+module _ (b : BoardValue) (past : List Record) (c : ℕ) (laws : SettleLaws b)
+    (is : IsLegalPast b past) (on : c < cores b) where
+  abbrev v : Values
+  v = firmware_values b past
+
+  abbrev w : controlled.Values
+  w = controller_values b past
+
+  -- What is so of a core that is to enter.
+  pub record IsWaiting (s : Start) : Type 0 where
+    pub at : place b past c ≡ Started
+    pub last : last_start w c ≡ Some s
+
+  later : (s : Start) → IsNew (kept_after b past) c s → (in_life b s.life v).known c < w.starts c
+  later s new =
+      let number = (last_is w c s new.last).number in
+      elim (cases_eq s.life v.life) [
+        | inl same ↦
+            let less = not_known (kept_after b past) c s new.unknown same in
+            let known = ap (λ (u : Values). u.known c) (found_own b s.life v same) in
+            omega (arith, number, less, known)
+        | inr ne ↦
+            let some = some_number w c s new.last in
+            let known = ap (λ (u : Values). u.known c) (found_other b s.life v ne) in
+            omega (arith, number, some, known)
+      ]
+
+  pub door_open : (s : Start) → waiting_in (kept_after b past) c ≡ Some s → IsWaiting s
+  door_open s e =
+      let new = waits (kept_after b past) c s e in record {
+        at = ((laws.past past is).given.agreed.present s.life (last_is w c s new.last).life).started
+            c on (later s new);
+        last = new.last;
+      }
+
+  is_waiting : (s : Start) → last_start w c ≡ Some s → is_known (kept_after b past) c s ≡ false
+      → waiting_in (kept_after b past) c ≡ Some s
+  is_waiting s last unknown = grind (arith, nat_tests)
+
+  known_by : (s : Start) → is_known (kept_after b past) c s ≡ true
+      → (s.life ≡ v.life) × (s.number ≤ v.known c)
+  known_by s e =
+      let both = and_parts (s.life == v.life) _ e in
+      (eqb-true s.life v.life both.0, leb-true s.number (v.known c) both.1)
+
+  pub door_shut : waiting_in (kept_after b past) c ≡ None → place b past c ≡ Started → ⊥
+  door_shut e at =
+      let free = (laws.past past is).free.enters c on at in
+      let s : Start = free.0 in
+      by s free.1 (is_known (kept_after b past) c s) refl
+    where
+      by : (s : Start) → last_start w c ≡ Some s → (t : Bool) → is_known (kept_after b past) c s ≡ t
+          → ⊥
+      by s last false f = none-some s (sym e ∙ is_waiting s last f)
+      by s last true f =
+          let known = known_by s f in
+          let is_last = last_is w c s last in
+          let less = ((laws.past past is).given.agreed.present s.life is_last.life).waits c on at in
+          let same = ap (λ (u : Values). u.known c) (found_own b s.life v known.0) in
+          let number = is_last.number in
+          let most = known.1 in
+          omega (arith, less, same, number, most)

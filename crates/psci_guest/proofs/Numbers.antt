@@ -1,13 +1,12 @@
 -- The message of a record has the number of the messages before it.
 use Rattle.psci_headline.proofs.Words.{◌++◌, ◌∙◌, ◌∷◌, ◌≡◌, ap, arith, BoardValue, cond-true}
-use Rattle.psci_headline.proofs.Words.{Event, FwReply, index_of, indexed, legal, length}
-use Rattle.psci_headline.proofs.Words.{List, listed, MessageValue, nat_tests, Option}
-use Rattle.psci_headline.proofs.Words.{option_map, Record, refl, Said, said_by, sent, sent_in}
-use Rattle.psci_headline.proofs.Words.{ℕ}
+use Rattle.psci_headline.proofs.Words.{Event, FwReply, index_of, indexed, legal, length, List}
+use Rattle.psci_headline.proofs.Words.{listed, MessageValue, nat_tests, Option, option_map}
+use Rattle.psci_headline.proofs.Words.{Record, refl, Said, said_by, sent, sent_in, ℕ}
 use Rattle.psci_ctl_spec.specs.declared.reply.CtlReply.{CtlReply}
 use Rattle.psci_headline.specs.Settling.{has_name}
 use Rattle.psci_headline.specs.psci_world_spec.Legal.{said_of}
-use Rattle.psci_headline.proofs.Finding.{HasNumber, numbered_new, own_name}
+use Rattle.psci_headline.proofs.Serving.{HasNumber, numbered_new, own_name}
 use Rattle.psci_headline.proofs.Happening.{of_event}
 use Rattle.psci_guest.specs.Turns.{number_in}
 

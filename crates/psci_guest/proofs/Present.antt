@@ -1,26 +1,22 @@
 -- Who runs and who stands between two turns, as both keep it.
 use Rattle.psci_headline.proofs.Words.{◌<◌, ◌∙◌, ◌≡◌, and_parts, ap, arith, BoardValue}
 use Rattle.psci_headline.proofs.Words.{controller_values, cores, eq-eqb, eqb-true, false}
-use Rattle.psci_headline.proofs.Words.{in_life, false≢true}
-use Rattle.psci_headline.proofs.Words.{firmware_values}
-use Rattle.psci_headline.proofs.Words.{List}
-use Rattle.psci_headline.proofs.Words.{nat_tests, None, Option, Record, refl}
-use Rattle.psci_headline.proofs.Words.{Running, Some, Started, Stopped, sym}
-use Rattle.psci_headline.proofs.Words.{true, Values, ℕ}
+use Rattle.psci_headline.proofs.Words.{false≢true, firmware_values, in_life, List, nat_tests}
+use Rattle.psci_headline.proofs.Words.{None, Option, Record, refl, Running, Some, Started}
+use Rattle.psci_headline.proofs.Words.{Stopped, sym, true, Values, ℕ}
 use Rattle.std.specs.Prelude.{◌&&◌, ◌==◌, Bool, is_some, not}
 use Rattle.psci_ctl_spec.specs.Replies.{is_this_life}
 use Rattle.psci_world_spec.specs.declared.place.Place.{Place}
-use Rattle.psci_world_spec.specs.Places.{place}
-use Rattle.psci_headline.proofs.Agreeing.{found_own}
-use Rattle.psci_headline.proofs.Standing.{settled_life}
+use Rattle.psci_world_spec.specs.Legal.{place}
+use Rattle.psci_headline.proofs.Controls.{found_own}
+use Rattle.psci_headline.proofs.Nexts.{settled_life}
 use Rattle.psci_fw_spec.specs.Phases as phases
 use Rattle.psci_guest.specs.Arrivals.{kept_after, RunsIn}
 use Rattle.psci_guest.specs.Pair.{runs_in, stands_in}
 use Rattle.psci_guest.specs.Turns.{Turn, turns}
 use Rattle.psci_guest.proofs.Happened.{TurnLaws}
-use Rattle.psci_guest.proofs.Tied.{IsMore}
-use Rattle.psci_guest.proofs.Turning.{home}
-use Rattle.psci_guest.proofs.Turning.{IsHome}
+use Rattle.psci_guest.proofs.Events.{IsMore}
+use Rattle.psci_guest.proofs.Turning.{home, IsHome}
 
 -- Tests
 not_false : (t : Bool) → not t ≡ false → t ≡ true

@@ -1,15 +1,13 @@
 -- Worked examples of words that are refused: a guest of a board of one core, which runs in its
 -- first start of life 2.
-use Rattle.std.proofs.Common.{ℕ, false, [], ◌∷◌, Some, None, refl}
+use Rattle.std.proofs.Common.{false, [], ◌∷◌, Some, None, refl}
 use Rattle.psci_board.specs.Board.{BoardValue}
-use Rattle.psci_board.specs.psci_abi.declared.format.Format.TheVariants.{Original}
+use Rattle.psci_board.specs.psci_abi.declared.registers.Format.TheVariants.{Original}
 use Rattle.psci_messages.specs.declared.start.Cause.TheVariants.{Boot}
 use Rattle.psci_messages.specs.psci_state.declared.cores.Activity.TheVariants.{Active}
 use Rattle.psci_fw_spec.specs.declared.mode.SuspendMode.TheVariants.{Platform}
 use Rattle.psci_fw_spec.specs.declared.status.Status.TheVariants.{On}
-use Rattle.psci_ctl.specs.Seen.{ControllerValue}
 use Rattle.psci_ctl.specs.declared.fault.SavedFault.TheVariants as behind
-use Rattle.psci_fw.specs.Seen.{FirmwareValue}
 use Rattle.psci_fw_state.specs.Saved as firmware
 use Rattle.psci_fw_state.specs.declared.fault.SavedFault.TheVariants as own
 use Rattle.psci_guest.specs.Pair.{PairValue}

@@ -1,36 +1,103 @@
 -- What is so once the message that was just sent was served.
-use Rattle.psci_headline.proofs.Words.{◌+◌, ◌<◌, ◌∙◌, ◌∷◌, ◌≡◌, ◌⊎◌, AckValue, answers, ap, arith}
-use Rattle.psci_headline.proofs.Words.{BoardValue, cases_eq, cond-false, cond-true}
-use Rattle.psci_headline.proofs.Words.{controller_values}
-use Rattle.psci_headline.proofs.Words.{cores, Down, false, firmware_values, height, in_life}
-use Rattle.psci_headline.proofs.Words.{inl, inr, is_done, is_system, IsLegalPast, Kind, length}
-use Rattle.psci_headline.proofs.Words.{List}
-use Rattle.psci_headline.proofs.Words.{message_effect, MessageValue, nat_tests, ne_eqb, None}
-use Rattle.psci_headline.proofs.Words.{none-some, OfCore, OfSystem, Option, or_left, or_right}
-use Rattle.psci_headline.proofs.Words.{Place}
-use Rattle.psci_headline.proofs.Words.{place, place_of_effect, Record, refl, same_Some, sent}
-use Rattle.psci_headline.proofs.Words.{serving}
-use Rattle.psci_headline.proofs.Words.{slice_get_within, slot_of, Some, start_of_life, Started}
-use Rattle.psci_headline.proofs.Words.{Stopped, subst, sym, true, unwrap_or, Values, ℕ}
-use Rattle.psci_headline.specs.psci_fw_spec.Taking.{taken_by}
-use Rattle.psci_headline.specs.psci_fw_laws.Outstanding.{AreOutstanding}
+use Rattle.psci_ctl_spec.specs.Replies as controlling
+use Rattle.psci_ctl_spec.specs.Replies.{Effect}
+use Rattle.psci_ctl_spec.specs.Values as controlled
 use Rattle.psci_ctl_spec.specs.psci_messages.declared.kind.Kind.TheVariants as kinds
 use Rattle.psci_ctl_spec.specs.psci_messages.declared.taken.Taken.TheVariants.{Used}
-use Rattle.psci_ctl_spec.specs.Effects.{Effect}
-use Rattle.psci_ctl_spec.specs.Changes as controlling
-use Rattle.psci_ctl_spec.specs.Values as controlled
-use Rattle.psci_headline.proofs.Agreeing.{found_other, found_own}
+use Rattle.psci_headline.specs.psci_fw_laws.Messages.{AreOutstanding}
+use Rattle.psci_headline.specs.psci_fw_spec.Values.{taken_by}
+use Rattle.psci_headline.proofs.Controls.{found_other, found_own}
+use Rattle.psci_headline.proofs.Beginning.{HasEntered, HasNoStart, IsUnderWay}
+use Rattle.psci_headline.proofs.Serving.{ack_to, answered_so, AreAnswered, empties, HasNumber}
+use Rattle.psci_headline.proofs.Serving.{IsEmptying, named_answers, none_added}
 use Rattle.psci_headline.proofs.Downs.{down_answered, IsDownAnswered}
-use Rattle.psci_headline.proofs.Finding.{HasNumber}
-use Rattle.psci_headline.proofs.Going.{IsGoing, IsOut, known_now, out_now}
-use Rattle.psci_headline.proofs.Nexts.{acks_message}
-use Rattle.psci_headline.proofs.Rounds.{DeepAt, deep_or_out, out_at}
-use Rattle.psci_headline.proofs.Serving.{ack_to, answered_so, AreAnswered, empties, IsEmptying}
-use Rattle.psci_headline.proofs.Serving.{named_answers}
-use Rattle.psci_headline.proofs.Standing.{SettleLaws}
-use Rattle.psci_headline.proofs.Taking.{HasName}
-use Rattle.psci_guest.proofs.Landing.{AllEntered, AreHome, HasLanded, IsComing, lands}
+use Rattle.psci_headline.proofs.Starts.{goes_on, IsGoing, IsOut, known_now, out_now}
+use Rattle.psci_headline.proofs.Nexts.{acks_message, SettleLaws}
+use Rattle.psci_headline.proofs.Rounds.{deep_or_out, DeepAt, out_at}
+use Rattle.psci_headline.proofs.Pursuing.{HasName}
+use Rattle.psci_headline.proofs.Words.{◌+◌, ◌<◌, ◌∙◌, ◌∷◌, ◌≡◌, ◌⊎◌, AckValue, answers, ap}
+use Rattle.psci_headline.proofs.Words.{arith, BoardValue, cases_eq, cond-false, cond-true}
+use Rattle.psci_headline.proofs.Words.{controller_values, cores, Down, false, firmware_values}
+use Rattle.psci_headline.proofs.Words.{height, in_life, inl, inr, is_done, is_system}
+use Rattle.psci_headline.proofs.Words.{IsLegalPast, Kind, length, List, message_effect}
+use Rattle.psci_headline.proofs.Words.{MessageValue, nat_tests, ne_eqb, None, none-some, OfCore}
+use Rattle.psci_headline.proofs.Words.{OfSystem, Option, or_left, or_right, Place, place}
+use Rattle.psci_headline.proofs.Words.{place_of_effect, Record, refl, same_Some, sent, serving}
+use Rattle.psci_headline.proofs.Words.{slice_get_within, slot_of, Some, start_of_life, Started}
+use Rattle.psci_headline.proofs.Words.{Stopped, subst, sym, true, unwrap_or, Values, ℕ}
 use Rattle.psci_guest.proofs.Numbers.{newest}
+
+-- Landing -----------------------------------------------------------------------------------------
+-- What is so between the exchanges of a turn: in a life nothing is outstanding, and at most one
+-- core is at its start.
+
+-- What is so in a life.
+pub record IsComing (b : BoardValue) (past : List Record) (life : ℕ) : Type 0 where
+  pub present : (controller_values b past).life ≡ Some life
+  pub awake : (in_life b life (firmware_values b past)).halting ≡ false
+  pub none : (x : ℕ) → x < cores b
+      → (in_life b life (firmware_values b past)).outstanding (OfCore x) ≡ None
+
+-- every core but this one has entered
+abbrev pub AreIn : BoardValue → ℕ → List Record → Type 0
+AreIn b one past = (x : ℕ) → x < cores b → (x ≡ one → ⊥) → HasEntered b x past
+
+-- every core has
+abbrev pub AllEntered : BoardValue → List Record → Type 0
+AllEntered b past = (x : ℕ) → x < cores b → HasEntered b x past
+
+-- What is so after an exchange that leaves no core at its start.
+pub record AreHome (b : BoardValue) (past : List Record) (life : ℕ) : Type 0 where
+  pub legal : IsLegalPast b past
+  pub coming : IsComing b past life
+  pub entered : AllEntered b past
+
+-- only this core may be at its start, or none
+abbrev pub AtMost : BoardValue → Option ℕ → List Record → Type 0
+AtMost b None past = AllEntered b past
+AtMost b (Some one) past = AreIn b one past
+
+pub any_most : (b : BoardValue) (o : Option ℕ) (past : List Record) → AllEntered b past
+    → AtMost b o past
+any_most b None past is = is
+any_most b (Some one) past is = λ x on ne. is x on
+
+pub one_most : (b : BoardValue) (o : Option ℕ) (past : List Record) → AtMost b o past
+    → AreIn b (unwrap_or o 0) past
+one_most b None past is = λ x on ne. is x on
+one_most b (Some one) past is = is
+
+-- What is so after any.
+pub record HasLanded (b : BoardValue) (o : Option ℕ) (past : List Record) : Type 0 where
+  pub legal : IsLegalPast b past
+  pub coming : (life : ℕ) → (controller_values b past).life ≡ Some life → IsComing b past life
+  pub others : AtMost b o past
+
+-- the settling of a life begins here
+pub under_way : (b : BoardValue) (past : List Record) (life : ℕ) → IsLegalPast b past
+    → (controller_values b past).life ≡ Some life
+    → (in_life b life (firmware_values b past)).halting ≡ false → IsUnderWay b past life past
+under_way b past life legal present awake = record {
+  legal = legal;
+  added = none_added past;
+  present = present;
+  awake = awake;
+  count = λ j. inl refl;
+}
+
+-- where every core has entered, and no Start is outstanding, it goes on
+pub lands : (b : BoardValue) (past : List Record) (life : ℕ) → SettleLaws b → IsLegalPast b past
+    → (controller_values b past).life ≡ Some life
+    → (in_life b life (firmware_values b past)).halting ≡ false → AllEntered b past
+    → ((c : ℕ) → c < cores b → HasNoStart b c past) → IsGoing b past life past
+lands b past life laws legal present awake entered starts =
+    goes_on b past life past laws (record {
+      way = under_way b past life legal present awake;
+      entered = entered;
+      started = starts;
+    })
+
+-- Served ------------------------------------------------------------------------------------------
 
 -- What is so where a message was just sent: nothing else is outstanding.
 pub record IsSent (b : BoardValue) (life : ℕ) (past rest : List Record) (m : MessageValue) : Type 0

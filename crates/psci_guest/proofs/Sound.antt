@@ -1,49 +1,61 @@
 -- What the firmware sends is for a core of its board, whatever it keeps: a message names its sender
 -- or the target of a CPU_ON, and has parts of levels on its sender's path.
-use Rattle.std.proofs.Common.{[], ◌+◌, ◌<◌, ◌≡◌, ◌≤◌, ap, arith, length, List, None, Ok}
-use Rattle.std.proofs.Common.{Option, refl, Some, subst, ℕ}
+use Rattle.std.specs.Prelude.{Err, if◌then◌else◌, nat_lt, not, Result}
+use Rattle.std.proofs.Common.{◌+◌, ◌<◌, ◌∙◌, ◌≡◌, ◌≤◌, [], ap, arith, drop}
+use Rattle.std.proofs.Common.{length, List, None, Ok, Option, refl, Some, subst, sym, take, ℕ}
+use Rattle.std.proofs.Math.Seq.{drop-append_seam, take-append_seam}
 use Rattle.std.proofs.lemmas.Bool.Decides.{nat_tests}
-use Rattle.std.specs.Prelude.{not, nat_lt, Result, Err, if◌then◌else◌}
-use Rattle.psci_board.specs.Board.{BoardValue, core_of, cores, height}
-use Rattle.psci_board.specs.Laws.{WordLaws}
-use Rattle.psci_board.specs.declared.node.Core.{Core}
-use Rattle.psci_ctl_spec.specs.Legal.{IsOfBoard}
-use Rattle.psci_messages.specs.Claim.{least_wish, off_wish, own_wish, platform_claims}
-use Rattle.psci_messages.specs.Laws.{ClaimLaws, LastCoreLaws}
+use Rattle.std.proofs.lemmas.Option.{none-some}
+use Rattle.psci_board.specs.Board.{BoardValue, core_of, cores, height, WordLaws}
+use Rattle.psci_board.specs.declared.draft.Core.{Core}
+use Rattle.psci_messages.specs.Claim.{ClaimLaws, LastCoreLaws, least_wish, off_wish, own_wish}
+use Rattle.psci_messages.specs.Claim.{platform_claims}
 use Rattle.psci_messages.specs.Message.{MessageValue}
 use Rattle.psci_messages.specs.View.{PowerView}
 use Rattle.psci_messages.specs.declared.kind.Kind.{Kind}
 use Rattle.psci_messages.specs.declared.kind.Kind.TheVariants as kinds
 use Rattle.psci_messages.specs.declared.part.Part.{Part}
 use Rattle.psci_messages.specs.declared.start.Start.{Start}
-use Rattle.psci_messages.specs.psci_state.Ask.{deepest_of}
-use Rattle.psci_fw_spec.proofs.Endings.{outcome_ends, reset2_ends, suspend_ends, system_ends}
-use Rattle.psci_fw_spec.specs.Answer.{answer, reply_or}
-use Rattle.psci_fw_spec.specs.Calls.{call_fault, function_outcome, outcome_of}
-use Rattle.psci_fw_spec.specs.Claims.{leaving_claims, off_parts, suspend_claims, suspend_parts}
-use Rattle.psci_fw_spec.specs.CpuOff.{cpu_off, off_message}
-use Rattle.psci_fw_spec.specs.CpuOn.{start_outcome, target_of}
-use Rattle.psci_fw_spec.specs.CpuSuspend.{ask_named}
+use Rattle.psci_messages.specs.psci_state.PowerState.{deepest_of}
+use Rattle.psci_ctl_spec.specs.History.{IsOfBoard}
+use Rattle.psci_fw_spec.specs.Answer.{answer, call_fault, enter_fault, enter_outcome}
+use Rattle.psci_fw_spec.specs.Answer.{function_outcome, outcome_of, reply_or}
 use Rattle.psci_fw_spec.specs.Changes.{with_arrival, with_phase}
-use Rattle.psci_fw_spec.specs.Entering.{enter_fault, enter_outcome}
-use Rattle.psci_fw_spec.specs.Outcomes.{message_for, returns, stops, stops_with}
+use Rattle.psci_fw_spec.specs.PowerCalls.{ask_named, cpu_off, leaving_claims, message_for}
+use Rattle.psci_fw_spec.specs.PowerCalls.{off_message, off_parts, returns, start_outcome, stops}
+use Rattle.psci_fw_spec.specs.PowerCalls.{stops_with, suspend_claims, suspend_parts}
+use Rattle.psci_fw_spec.specs.PowerCalls.{system_message, target_of}
 use Rattle.psci_fw_spec.specs.Phases.{Suspended}
-use Rattle.psci_fw_spec.specs.SystemCalls.{system_message}
-use Rattle.psci_fw_spec.specs.Views.{view}
-use Rattle.psci_fw_spec.specs.declared.mode.SuspendMode.{SuspendMode}
-use Rattle.psci_fw_spec.specs.declared.mode.SuspendMode.TheVariants.{Platform, OsInitiated}
 use Rattle.psci_fw_spec.specs.Values.{Values}
+use Rattle.psci_fw_spec.specs.Invariant.{view}
 use Rattle.psci_fw_spec.specs.declared.call.FwCall.{FwCall}
 use Rattle.psci_fw_spec.specs.declared.call.FwCall.TheVariants as calls
 use Rattle.psci_fw_spec.specs.declared.fault.FwFault.{FwFault}
 use Rattle.psci_fw_spec.specs.declared.fault.FwFault.TheVariants.{NoCore}
-use Rattle.psci_fw_spec.specs.declared.reply.FwReply.{FwReply}
+use Rattle.psci_fw_spec.specs.declared.mode.SuspendMode.{SuspendMode}
+use Rattle.psci_fw_spec.specs.declared.mode.SuspendMode.TheVariants.{OsInitiated, Platform}
 use Rattle.psci_fw_spec.specs.declared.outcome.Outcome.{Outcome}
+use Rattle.psci_fw_spec.specs.declared.reply.FwReply.{FwReply}
 use Rattle.psci_fw_spec.specs.psci_abi.Calls.{request_of}
-use Rattle.psci_fw_spec.specs.psci_abi.declared.code.Code.{Code}
+use Rattle.psci_fw_spec.specs.psci_abi.declared.registers.Code.{Code}
 use Rattle.psci_fw_spec.specs.psci_abi.declared.request.Request.{Request}
 use Rattle.psci_fw_spec.specs.psci_abi.declared.request.Request.TheVariants as requests
-use Rattle.psci_guest.specs.Pair.{message_of}
+use Rattle.psci_fw_spec.proofs.Endings.{outcome_ends, reset2_ends, suspend_ends, system_ends}
+use Rattle.psci_ctl.specs.Saved as controller
+use Rattle.psci_ctl.specs.Seen.{ControllerValue, IsController, seen as seen_controller}
+use Rattle.psci_fw_state.specs.Saved as firmware
+use Rattle.psci_fw_state.specs.Seen.{IsState}
+use Rattle.psci_fw.specs.Saved as opening
+use Rattle.psci_fw.specs.Reactions.{FirmwareValue, IsFirmware, seen as seen_firmware}
+use Rattle.psci_fw.specs.declared.fault.OpenFault.{OpenFault}
+use Rattle.psci_fw.specs.declared.fault.OpenFault.TheVariants as opens
+use Rattle.psci_guest.specs.Guest.{IsAfter}
+use Rattle.psci_guest.specs.Pair.{board_of, kept_by, message_of, PairValue}
+use Rattle.psci_guest.specs.Saved.{AreSaved, controller_words, firmware_count, firmware_words}
+use Rattle.psci_guest.specs.Saved.{IsRefused, saved}
+use Rattle.psci_guest.specs.Turns.{Turn}
+use Rattle.psci_guest.specs.declared.fault.LoadFault.{LoadFault}
+use Rattle.psci_guest.specs.declared.fault.LoadFault.TheVariants as faults
 
 -- What is known of a board, and of claims on it.
 pub record SendLaws (b : BoardValue) : Type 0 where
@@ -196,3 +208,81 @@ module _ (b : BoardValue) (laws : SendLaws b) (v : Values) (c : ℕ) where
       (off_message b (with_arrival b c s v) c) refl
       (off_sound b laws (with_arrival b c s v) c (inside _ free))))
   answer_sound (calls.Take a) = λ m e. absurd (cc)
+
+-- What is saved of firmware and power controller, and what is loaded of it ------------------------
+
+-- Laws -------------------------------------------------------------------------------------------
+
+-- What the crates below say of what is saved.
+pub record SavedLaws : Type 0 where
+  pub count : (f : FirmwareValue) → IsState f → length (firmware.saved f) ≡ firmware_count f.board
+  pub opens : (f : FirmwareValue) (fault : OpenFault) → IsFirmware f → IsState f
+      → firmware.IsSavable f → opening.IsRefused f.board (firmware.saved f) fault
+      → fault ≡ opens.Memory
+  pub alike : (f g : FirmwareValue) → IsState f → IsState g → firmware.IsSavable f
+      → firmware.IsSavable g → f.board ≡ g.board → firmware.saved f ≡ firmware.saved g → f ≡ g
+  pub controlled : (c d : ControllerValue) → IsController c → IsController d → c.board ≡ d.board
+      → controller.saved c ≡ controller.saved d → seen_controller c ≡ seen_controller d
+  pub complete : (c : ControllerValue) → IsController c
+      → controller.saved_fault c.board (controller.saved c) ≡ None
+
+module _ (laws : SavedLaws) where
+  -- where the firmware's words end, the power controller's begin
+  front : (p : PairValue) → AreSaved p
+      → firmware_words (board_of p) (saved p) ≡ firmware.saved p.firmware
+  front p is =
+      ap (λ n. take n (saved p)) (sym (laws.count p.firmware is.state))
+      ∙ take-append_seam (firmware.saved p.firmware) (controller.saved p.controller)
+
+  back : (p : PairValue) → AreSaved p
+      → controller_words (board_of p) (saved p) ≡ controller.saved p.controller
+  back p is =
+      ap (λ n. drop n (saved p)) (sym (laws.count p.firmware is.state))
+      ∙ drop-append_seam (firmware.saved p.firmware) (controller.saved p.controller)
+
+  -- neither part is refused
+  front_whole : (p : PairValue) (fault : OpenFault) → AreSaved p
+      → opening.IsRefused (board_of p) (firmware_words (board_of p) (saved p)) fault
+      → fault ≡ opens.Memory
+  front_whole p fault is refused =
+      laws.opens p.firmware fault is.firmware is.state is.savable
+      (subst (λ ws. opening.IsRefused (board_of p) ws fault) (front p is) refused)
+
+  back_whole : (p : PairValue) → AreSaved p
+      → controller.saved_fault (board_of p) (controller_words (board_of p) (saved p)) ≡ None
+  back_whole p is =
+      ap (controller.saved_fault (board_of p)) (back p is)
+      ∙ ap (λ b. controller.saved_fault b (controller.saved p.controller)) (sym is.both.same)
+      ∙ laws.complete p.controller is.controller
+
+  pub whole : (p : PairValue) (fault : LoadFault) → AreSaved p
+      → IsRefused (board_of p) (saved p) fault → fault ≡ faults.Memory
+  whole p faults.Memory is refused = refl
+  whole p (faults.Firmware e) is refused =
+      let no = front_whole p (opens.Words e) is refused in absurd (cc)
+  whole p faults.Values is refused =
+      let no = front_whole p opens.Values is refused in absurd (cc)
+  whole p (faults.Controller e) is refused =
+      absurd (none-some e (sym (back_whole p is) ∙ refused.found))
+
+  pub alike : (p q : PairValue) → AreSaved p → AreSaved q → board_of p ≡ board_of q
+      → saved p ≡ saved q → kept_by p ≡ kept_by q
+  alike p q is are board e =
+      let fronts : firmware.saved p.firmware ≡ firmware.saved q.firmware =
+      sym (front p is) ∙ ap (λ b. firmware_words b (saved p)) board
+      ∙ ap (firmware_words (board_of q)) e ∙ front q are in
+      let backs : controller.saved p.controller ≡ controller.saved q.controller =
+      sym (back p is) ∙ ap (λ b. controller_words b (saved p)) board
+      ∙ ap (controller_words (board_of q)) e ∙ back q are in
+      ap (λ f. record { firmware = seen_firmware f; controller = seen_controller p.controller })
+      (laws.alike p.firmware q.firmware is.state are.state is.savable are.savable board fronts)
+      ∙ ap (λ w. record { firmware = seen_firmware q.firmware; controller = w })
+      (laws.controlled p.controller q.controller is.controller are.controller
+      (is.both.same ∙ board ∙ sym are.both.same) backs)
+
+  pub goes_on : (b : BoardValue) (ts : List Turn) (p q : PairValue) → AreSaved p → AreSaved q
+      → board_of p ≡ board_of q → saved p ≡ saved q → IsAfter b ts p → IsAfter b ts q
+  goes_on b ts p q is are board e after = record {
+    board = sym board ∙ after.board;
+    kept = sym (alike p q is are board e) ∙ after.kept;
+  }

@@ -1,47 +1,38 @@
 -- What both keep, step by step, in a run of turns.
-use Rattle.psci_headline.proofs.Words.{◌<◌, ◌∙◌, ◌≡◌, [], ap, arith, BoardValue}
-use Rattle.psci_headline.proofs.Words.{controller_values, cores, Enter}
-use Rattle.psci_headline.proofs.Words.{call_fault, cases_eq, enter_fault}
-use Rattle.psci_headline.proofs.Words.{firmware_values, FwFault, inl, inr}
-use Rattle.psci_headline.proofs.Words.{IsLegalPast, last_start, length, List, outcome_of}
-use Rattle.psci_headline.proofs.Words.{reply_or, request_of, same_Some}
-use Rattle.psci_headline.proofs.Words.{MessageValue, nat_tests, None, Option, Record, refl, Regs}
-use Rattle.psci_headline.proofs.Words.{Running, sent, Some, Start, Started, Stopped, subst, sym}
-use Rattle.psci_headline.proofs.Words.{Values, ℕ}
+use Rattle.psci_headline.proofs.Words.{◌<◌, ◌∙◌, ◌≡◌, [], ap, arith, BoardValue, call_fault}
+use Rattle.psci_headline.proofs.Words.{cases_eq, controller_values, cores, Enter, enter_fault}
+use Rattle.psci_headline.proofs.Words.{firmware_values, FwFault, inl, inr, IsLegalPast}
+use Rattle.psci_headline.proofs.Words.{last_start, length, List, MessageValue, nat_tests, None}
+use Rattle.psci_headline.proofs.Words.{Option, outcome_of, Record, refl, Regs, reply_or}
+use Rattle.psci_headline.proofs.Words.{request_of, Running, same_Some, sent, Some, Start}
+use Rattle.psci_headline.proofs.Words.{Started, Stopped, subst, sym, Values, ℕ}
 use Rattle.std.specs.Prelude.{option_map}
-use Rattle.psci_board.specs.declared.node.Core.{Core}
+use Rattle.psci_board.specs.declared.draft.Core.{Core}
 use Rattle.psci_ctl_spec.specs.Values as controlled
-use Rattle.psci_fw_spec.specs.Answer.{answer}
-use Rattle.psci_fw_spec.specs.Entering.{enter_outcome}
+use Rattle.psci_fw_spec.specs.Answer.{answer, enter_outcome}
 use Rattle.psci_fw_spec.specs.declared.outcome.Outcome.{Outcome}
 use Rattle.psci_fw_spec.specs.declared.reply.FwReply.{FwReply}
 use Rattle.psci_fw_spec.specs.declared.reply.FwReply.TheVariants as replies
 use Rattle.psci_world_spec.specs.declared.event.Event.TheVariants.{Call, Reset, Wake}
-use Rattle.psci_world_spec.specs.Histories.{sent_in}
-use Rattle.psci_world_spec.specs.Legal.{legal, said_of, sent_as}
-use Rattle.psci_world_spec.specs.Places.{place}
-use Rattle.psci_fw_spec.specs.Lives as lives
+use Rattle.psci_world_spec.specs.Legal.{legal, place, said_of, sent_as, sent_in}
+use Rattle.psci_fw_spec.specs.Changes as lives
 use Rattle.psci_headline.proofs.Agreed.{first_kept}
-use Rattle.psci_headline.proofs.AllDown.{first_controlled}
+use Rattle.psci_headline.proofs.Downs.{first_controlled}
 use Rattle.psci_ctl_spec.specs.declared.call.CtlCall.TheVariants as asked
-use Rattle.psci_ctl_spec.specs.Legal.{IsOfBoard}
+use Rattle.psci_ctl_spec.specs.History.{IsOfBoard}
 use Rattle.psci_guest.specs.Arrivals.{AreArrivals, kept_after, RunsIn, Says}
 use Rattle.psci_guest.specs.Pair.{arrival_of, message_of, waiting_in}
-use Rattle.psci_guest.specs.Steps.{AreSteps, call_reply, entry_after, IsCallStep, IsDoor, IsDoorOf}
-use Rattle.psci_guest.specs.Steps.{IsKickStep}
+use Rattle.psci_guest.specs.Steps.{AreSteps, call_reply, entry_after, IsCallStep, IsDoor}
+use Rattle.psci_guest.specs.Steps.{IsDoorOf, IsKickStep}
 use Rattle.psci_guest.specs.Turns.{arrived, Calls, event_of, exchange, IsSettled, Resets}
-use Rattle.psci_guest.specs.Turns.{started_by}
-use Rattle.psci_guest.specs.Turns.{Turn, turns, Wakes}
-use Rattle.psci_guest.proofs.Arriving.{arrived_none, arrived_one}
-use Rattle.psci_guest.proofs.Doors.{door_open, door_shut, IsWaiting}
+use Rattle.psci_guest.specs.Turns.{started_by, Turn, turns, Wakes}
+use Rattle.psci_guest.proofs.Turning.{arrived_none, arrived_one, arriving_case, begun_by}
+use Rattle.psci_guest.proofs.Turning.{exchanged, first_landed, home, IsHome}
+use Rattle.psci_guest.proofs.Happened.{door_open, door_shut, IsWaiting, TurnLaws}
 use Rattle.psci_guest.proofs.Events.{call_kept, call_said, call_sound, entry_kept, entry_said}
-use Rattle.psci_guest.proofs.Events.{entry_sound, reset_kept, wake_kept}
-use Rattle.psci_guest.proofs.Happened.{TurnLaws}
-use Rattle.psci_guest.proofs.Landing.{HasLanded}
+use Rattle.psci_guest.proofs.Events.{entry_sound, IsMore, reply_sends, reset_kept, wake_kept}
+use Rattle.psci_guest.proofs.Served.{HasLanded}
 use Rattle.psci_guest.proofs.Present.{moves_so, rests_so, runs_so, stands_so}
-use Rattle.psci_guest.proofs.Tied.{IsMore, reply_sends}
-use Rattle.psci_guest.proofs.Turning.{arriving_case, begun_by, exchanged, first_landed, home}
-use Rattle.psci_guest.proofs.Turning.{IsHome}
 
 -- an outcome is said as it is
 sent_back : (n : ℕ) (m : Option MessageValue) → option_map (λ s. s.message) (sent_as n m) ≡ m

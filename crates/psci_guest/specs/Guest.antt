@@ -2,8 +2,7 @@
 use Rattle.std.specs.Prelude.{◌≡◌, List, ◌∷◌, Option, Some}
 use Rattle.psci_board.specs.Board.{BoardValue}
 use Rattle.psci_world_spec.specs.declared.said.Record.{Record}
-use Rattle.psci_world_spec.specs.Histories.{controller_values}
-use Rattle.psci_world_spec.specs.Legal.{legal}
+use Rattle.psci_world_spec.specs.Legal.{controller_values, legal}
 use Rattle.psci_guest.specs.declared.arrival.Arrival.{Arrival}
 use Rattle.psci_guest.specs.declared.turned.Turned.{Turned}
 use Rattle.psci_guest.specs.Arrivals.{AreArrivals, kept_after, Says}

@@ -1,25 +1,25 @@
 -- Firmware and power controller as one: what both keep, and what an exchange leaves of it.
-use Rattle.std.specs.Prelude.{◌≡◌, ℕ, Bool, ◌==◌, ◌&&◌, nat_le, if◌then◌else◌, Option, None}
-use Rattle.std.specs.Prelude.{Some, is_some, not, option_and_then}
+use Rattle.std.specs.Prelude.{◌&&◌, ◌==◌, ◌≡◌, Bool, if◌then◌else◌, is_some, nat_le, None, not}
+use Rattle.std.specs.Prelude.{Option, option_and_then, Some, ℕ}
 use Rattle.psci_board.specs.Board.{BoardValue, IsBoard}
-use Rattle.psci_board.specs.declared.node.Core.{Core}
+use Rattle.psci_board.specs.declared.draft.Core.{Core}
 use Rattle.psci_messages.specs.Message.{MessageValue}
 use Rattle.psci_ctl.specs.Seen.{ControllerValue, seen as seen_controller}
 use Rattle.psci_ctl_spec.specs.declared.call.CtlCall.TheVariants as asked
 use Rattle.psci_ctl_spec.specs.declared.delivery.Delivery.TheVariants as deliveries
 use Rattle.psci_ctl_spec.specs.declared.reply.CtlReply.{CtlReply}
 use Rattle.psci_ctl_spec.specs.declared.reply.CtlReply.TheVariants as replied
-use Rattle.psci_ctl_spec.specs.Changes as changes
-use Rattle.psci_ctl_spec.specs.Legal.{IsOfBoard}
+use Rattle.psci_ctl_spec.specs.Replies as changes
+use Rattle.psci_ctl_spec.specs.History.{IsOfBoard}
 use Rattle.psci_messages.specs.declared.start.Start.{Start}
 use Rattle.psci_ctl_spec.specs.Replies.{is_this_life, last_start, reply}
 use Rattle.psci_ctl_spec.specs.Values as controlled
-use Rattle.psci_fw.specs.Seen.{FirmwareValue, seen as seen_firmware}
+use Rattle.psci_fw.specs.Reactions.{FirmwareValue, seen as seen_firmware}
 use Rattle.psci_fw_spec.specs.declared.call.FwCall.{FwCall}
 use Rattle.psci_fw_spec.specs.declared.call.FwCall.TheVariants as calls
 use Rattle.psci_fw_spec.specs.declared.reply.FwReply.{FwReply}
 use Rattle.psci_fw_spec.specs.declared.reply.FwReply.TheVariants as replies
-use Rattle.psci_fw_spec.specs.After as leaves
+use Rattle.psci_fw_spec.specs.Effects as leaves
 use Rattle.psci_fw_spec.specs.Answer.{answer}
 use Rattle.psci_fw_spec.specs.Phases.{is_running}
 use Rattle.psci_fw_spec.specs.Values as kept

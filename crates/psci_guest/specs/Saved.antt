@@ -5,7 +5,7 @@ use Rattle.psci_ctl.specs.Saved as behind
 use Rattle.psci_ctl.specs.Seen.{IsController}
 use Rattle.psci_ctl.specs.declared.fault.SavedFault.{SavedFault as ControllerFault}
 use Rattle.psci_fw.specs.Saved as opening
-use Rattle.psci_fw.specs.Seen.{FirmwareValue, IsFirmware}
+use Rattle.psci_fw.specs.Reactions.{FirmwareValue, IsFirmware}
 use Rattle.psci_fw.specs.declared.fault.OpenFault.{OpenFault}
 use Rattle.psci_fw.specs.declared.fault.OpenFault.TheVariants as opens
 use Rattle.psci_fw_state.specs.Saved as own

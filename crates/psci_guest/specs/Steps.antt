@@ -1,16 +1,16 @@
 -- What both keep, step by step, in a run of turns.
 use Rattle.std.specs.Prelude.{◌≡◌, ℕ, ◌<◌, true, false, List, [], ◌∷◌, Option, None, Some}
 use Rattle.psci_board.specs.Board.{BoardValue, cores}
-use Rattle.psci_board.specs.declared.node.Core.{Core}
+use Rattle.psci_board.specs.declared.draft.Core.{Core}
 use Rattle.psci_messages.specs.Message.{MessageValue}
 use Rattle.psci_messages.specs.declared.start.Start.{Start}
 use Rattle.psci_ctl_spec.specs.declared.call.CtlCall.{CtlCall}
 use Rattle.psci_ctl_spec.specs.declared.call.CtlCall.TheVariants as asked
-use Rattle.psci_ctl_spec.specs.Changes as changes
-use Rattle.psci_ctl_spec.specs.Legal.{IsOfBoard}
+use Rattle.psci_ctl_spec.specs.Replies as changes
+use Rattle.psci_ctl_spec.specs.History.{IsOfBoard}
 use Rattle.psci_ctl_spec.specs.Replies.{reply}
 use Rattle.psci_ctl_spec.specs.Values as controlled
-use Rattle.psci_fw_spec.specs.Lives as lives
+use Rattle.psci_fw_spec.specs.Changes as lives
 use Rattle.psci_fw_spec.specs.declared.call.FwCall.TheVariants as calls
 use Rattle.psci_fw_spec.specs.declared.fault.FwFault.{FwFault}
 use Rattle.psci_fw_spec.specs.declared.outcome.Outcome.{Outcome}
@@ -22,13 +22,12 @@ use Rattle.psci_world_spec.specs.declared.event.Event.{Event}
 use Rattle.psci_world_spec.specs.declared.event.Event.TheVariants.{Call, Wake, Reset}
 use Rattle.psci_world_spec.specs.declared.place.Place.TheVariants.{Running, Stopped}
 use Rattle.psci_world_spec.specs.declared.said.Record.{Record}
-use Rattle.psci_world_spec.specs.Histories.{controller_values, firmware_values}
-use Rattle.psci_world_spec.specs.Legal.{legal}
-use Rattle.psci_world_spec.specs.Places.{place}
+use Rattle.psci_world_spec.specs.Legal.{controller_values, firmware_values, legal, place}
 use Rattle.psci_guest.specs.Arrivals.{AreArrivals, kept_after, RunsIn, Says}
 use Rattle.psci_guest.specs.Pair.{arrival_of, message_of, runs_in, stands_in, waiting_in}
 use Rattle.psci_guest.specs.Pair.{with_call}
-use Rattle.psci_guest.specs.Turns.{IsSettled, Turn, arrived, event_of, exchange, started_by, turns}
+use Rattle.psci_guest.specs.Turns.{IsSettled, Turn, arrived, event_of, exchange, started_by}
+use Rattle.psci_guest.specs.Turns.{turns}
 
 -- what the firmware replies after these records to a core that calls
 abbrev pub call_reply : BoardValue → List Record → ℕ → Regs → FwReply

@@ -1,27 +1,25 @@
 -- A turn: what happens in one critical section of a machine whose cores stand while they are in it,
 -- as a hypervisor's vCPUs do.
-use Rattle.std.specs.Prelude.{◌≡◌, ℕ, List, [], ◌∷◌, Option, None, Some, option_map}
-use Rattle.std.specs.Prelude.{if◌then◌else◌}
+use Rattle.std.specs.Prelude.{◌∷◌, ◌≡◌, [], if◌then◌else◌, List, None, Option, option_map, Some}
+use Rattle.std.specs.Prelude.{ℕ}
 use Rattle.psci_headline.specs.psci_board.Board.{BoardValue}
 use Rattle.psci_messages.specs.Message.{MessageValue}
 use Rattle.psci_messages.specs.declared.kind.Kind.{Kind}
 use Rattle.psci_messages.specs.declared.kind.Kind.TheVariants as kinds
 use Rattle.psci_headline.specs.psci_world_spec.psci_abi.declared.registers.Regs.{Regs}
 use Rattle.psci_headline.specs.psci_world_spec.declared.event.Event.{Event}
-use Rattle.psci_headline.specs.psci_world_spec.declared.event.Event.TheVariants.{Call, Enter, Wake}
-use Rattle.psci_headline.specs.psci_world_spec.declared.event.Event.TheVariants.{Reset}
+use Rattle.psci_headline.specs.psci_world_spec.declared.event.Event.TheVariants.{Call, Enter}
+use Rattle.psci_headline.specs.psci_world_spec.declared.event.Event.TheVariants.{Reset, Wake}
 use Rattle.psci_headline.specs.psci_world_spec.declared.place.Place.TheVariants.{Stopped}
 use Rattle.psci_headline.specs.psci_world_spec.declared.said.Record.{Record}
 use Rattle.psci_headline.specs.psci_world_spec.declared.said.Said.{Said}
 use Rattle.psci_headline.specs.psci_world_spec.declared.said.Said.TheVariants.{Fw}
-use Rattle.psci_headline.specs.psci_world_spec.Histories.{controller_values}
-use Rattle.psci_headline.specs.psci_world_spec.Legal.{IsLegalPast, legal}
-use Rattle.psci_headline.specs.psci_world_spec.Places.{place}
+use Rattle.psci_headline.specs.psci_world_spec.Legal.{controller_values, IsLegalPast, legal}
+use Rattle.psci_headline.specs.psci_world_spec.Legal.{place}
 use Rattle.psci_headline.specs.Complete.{IsToldWhole}
-use Rattle.psci_headline.specs.Drained.{AreAtRest}
-use Rattle.psci_headline.specs.Safe.{AlwaysSafe}
-use Rattle.psci_headline.specs.Settling.{all_cores, each_core, is_started, serving}
+use Rattle.psci_headline.specs.Settling.{all_cores, AreAtRest, each_core, is_started, serving}
 use Rattle.psci_headline.specs.Settling.{step}
+use Rattle.psci_headline.specs.Safe.{AlwaysSafe}
 
 -- What begins a turn.
 pub data Turn : Type 0 where

@@ -35,7 +35,7 @@ ghost use Rattle.psci_guest.specs.Arrivals.{AreArrivals, RunsIn};
 ghost use Rattle.psci_guest.specs.Guest.{IsAfter, IsKicked, IsTurned};
 ghost use Rattle.psci_guest.specs.Pair.{board_of};
 ghost use Rattle.psci_guest.specs.Turns.{Calls, Resets, Turn, Wakes, started_by, turns};
-ghost use Rattle.psci_world_spec.specs.Places.{place};
+ghost use Rattle.psci_world_spec.specs.Legal.{place};
 ghost use Rattle.psci_world_spec.specs.declared.place.Place.TheVariants.{Running};
 
 impl GuestPower {

@@ -32,21 +32,20 @@ impl Model for Pair {
 ghost use Rattle.std.specs.Prelude.{◌≡◌, ◌<◌, IfOk, None, Some, option_map};
 ghost use Rattle.psci_board.specs.Board.{cores};
 ghost use Rattle.psci_ctl.specs.Seen.{seen as seen_controller};
-ghost use Rattle.psci_ctl_spec.specs.Changes as changes;
-ghost use Rattle.psci_ctl_spec.specs.Legal.{IsOfBoard};
+ghost use Rattle.psci_ctl_spec.specs.Replies as changes;
+ghost use Rattle.psci_ctl_spec.specs.History.{IsOfBoard};
 ghost use Rattle.psci_ctl_spec.specs.Replies.{reply};
 ghost use Rattle.psci_ctl_spec.specs.Values as controlled;
 ghost use Rattle.psci_ctl_spec.specs.declared.call.CtlCall.TheVariants as asked;
 ghost use Rattle.psci_ctl_spec.specs.declared.reply.CtlReply.TheVariants as replied;
-ghost use Rattle.psci_fw.specs.Seen.{seen as seen_firmware};
+ghost use Rattle.psci_fw.specs.Reactions.{seen as seen_firmware};
 ghost use Rattle.psci_fw_spec.specs.Answer.{answer, reply_of};
-ghost use Rattle.psci_fw_spec.specs.Lives as lives;
+ghost use Rattle.psci_fw_spec.specs.Changes as lives;
 ghost use Rattle.psci_fw_spec.specs.declared.call.FwCall.TheVariants as calls;
 ghost use Rattle.psci_messages.specs.Message.{MessageValue};
 ghost use Rattle.psci_messages.specs.declared.start.Start as starts;
-ghost use Rattle.psci_guest.specs.Pair.{IsLeft, IsPair, board_of, kept_by, with_call};
-ghost use Rattle.psci_guest.specs.Pair.{arrival_of, entry_reply, runs_in, stands_in, waiting_in};
-ghost use Rattle.psci_guest.specs.Pair.{with_message};
+ghost use Rattle.psci_guest.specs.Pair.{arrival_of, board_of, entry_reply, IsLeft, IsPair, kept_by};
+ghost use Rattle.psci_guest.specs.Pair.{runs_in, stands_in, waiting_in, with_call, with_message};
 
 impl Pair {
     /// Firmware and power controller of this board, as the machine comes on: the firmware is in no

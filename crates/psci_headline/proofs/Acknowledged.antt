@@ -1,19 +1,20 @@
 -- A claim that an acknowledgement confirms was carried out as the acknowledgement was made.
-use Rattle.psci_headline.proofs.Words.{◌++◌, ◌<◌, ◌∙◌, ◌∷◌, ◌≡◌, [], ack_by, AckValue, ap, applied}
-use Rattle.psci_headline.proofs.Words.{AreValues, arith, BoardValue, confirms_on, controller_values}
-use Rattle.psci_headline.proofs.Words.{Deepens, firmware_values, HasNode, Holds, hw_at, inr}
-use Rattle.psci_headline.proofs.Words.{IsAwaited, known_below, List, MessageValue, nat_tests, Node}
-use Rattle.psci_headline.proofs.Words.{NonePending, OfCore, part_from, PathLaws, Record, sent_in}
-use Rattle.psci_headline.proofs.Words.{slice_get, slot_of, Some, starts_below, subst, sym, take}
-use Rattle.psci_headline.proofs.Words.{true, up, Values, was_in_state, WasMade, ℕ}
-use Rattle.psci_ctl_spec.specs.Changes.{change}
-use Rattle.psci_fw_laws.proofs.Consequences.{none_active, once_down}
-use Rattle.psci_world_spec.specs.Histories.{sent}
-use Rattle.psci_headline.proofs.Items.{listed_later, IsListed}
-use Rattle.psci_headline.proofs.Taking.{HasName, named}
+use Rattle.psci_headline.proofs.Words.{◌++◌, ◌<◌, ◌∙◌, ◌∷◌, ◌≡◌, [], ack_by, AckValue, ap}
+use Rattle.psci_headline.proofs.Words.{applied, AreValues, arith, BoardValue, confirms_on}
+use Rattle.psci_headline.proofs.Words.{controller_values, Deepens, firmware_values, HasNode}
+use Rattle.psci_headline.proofs.Words.{Holds, hw_at, inr, IsAwaited, known_below, List}
+use Rattle.psci_headline.proofs.Words.{MessageValue, nat_tests, Node, NonePending, OfCore}
+use Rattle.psci_headline.proofs.Words.{part_from, PathLaws, Record, sent_in, slice_get, slot_of}
+use Rattle.psci_headline.proofs.Words.{Some, starts_below, subst, sym, take, true, up, Values}
+use Rattle.psci_headline.proofs.Words.{was_in_state, WasMade, ℕ}
+use Rattle.psci_ctl_spec.specs.Replies.{change}
+use Rattle.psci_fw_laws.proofs.Made.{none_active, once_down}
+use Rattle.psci_world_spec.specs.Legal.{sent}
+use Rattle.psci_headline.proofs.Sending.{listed_later, IsListed}
+use Rattle.psci_headline.proofs.Pursuing.{HasName, named}
 use Rattle.psci_headline.proofs.Nexts.{acks_message}
-use Rattle.psci_headline.proofs.Applied.{confirming, levels, applied_live, laid_at, Confirms}
-use Rattle.psci_headline.proofs.States.{seen_now, seen_since}
+use Rattle.psci_headline.proofs.Carried.{confirming, levels, applied_live, laid_at, Confirms}
+use Rattle.psci_headline.proofs.ToldHw.{seen_now, seen_since}
 use Rattle.psci_ctl_spec.specs.Values as controlled
 use Rattle.psci_ctl_spec.specs.psci_messages.declared.kind.Kind.TheVariants as kinds
 

@@ -1,35 +1,74 @@
 -- What is so after a started core has entered, and once all have and each Start was served.
-use Rattle.psci_headline.proofs.Words.{◌++◌, ◌<◌, ◌==◌, ◌∙◌, ◌∷◌, ◌≡◌, ◌⊎◌, Act, ap, arith}
-use Rattle.psci_headline.proofs.Words.{BoardValue, change, cond, cond-false, cond-true}
-use Rattle.psci_headline.proofs.Words.{controller_values, cores, deliveries, Enter, enter_effect}
-use Rattle.psci_headline.proofs.Words.{entering, eq-eqb, false, firmware_values, Fw, in_life}
-use Rattle.psci_headline.proofs.Words.{indexed, IsAllowed, IsLegal, IsLegalPast, last_start, length}
-use Rattle.psci_headline.proofs.Words.{List, listed, lt-ltb, MessageValue, nat_tests, ne_eqb, None}
-use Rattle.psci_headline.proofs.Words.{NoneRefused, OfCore, Option, option_map, Outcome, outcome_in}
-use Rattle.psci_headline.proofs.Words.{place_after, place_said, Record, refl, Sent, sent_in, Some}
-use Rattle.psci_headline.proofs.Words.{Start, Started, step, subst, sym, unwrap_or, Values, ℕ}
-use Rattle.psci_headline.specs.psci_world_spec.Legal.{sent_as, legal}
-use Rattle.psci_fw_laws.specs.psci_fw_spec.Entering.{enter_outcome}
-use Rattle.psci_headline.specs.psci_fw_spec.Answer.{answer}
-use Rattle.psci_headline.specs.psci_world_spec.Histories.{controller_history, firmware_history}
-use Rattle.psci_headline.specs.psci_world_spec.Histories.{sent}
-use Rattle.psci_headline.specs.psci_world_spec.Places.{place}
-use Rattle.psci_headline.proofs.world_spec.Answered.{firmware_legal}
-use Rattle.psci_headline.proofs.Agreed.{RunLaws}
-use Rattle.psci_headline.proofs.Finding.{numbered_old}
-use Rattle.psci_headline.proofs.fw_laws.Arriving.{found_life}
-use Rattle.psci_headline.proofs.Agreeing.{found_own}
-use Rattle.psci_headline.proofs.Moving.{entry_moves}
-use Rattle.psci_headline.proofs.Outcomes.{EnterSends, entry_sends}
-use Rattle.psci_headline.proofs.Placing.{last_is}
-use Rattle.psci_headline.proofs.Counting.{AreAdded, one_added}
-use Rattle.psci_headline.proofs.Folding.{IsStep}
-use Rattle.psci_headline.proofs.Standing.{SettleLaws}
 use Rattle.psci_ctl_spec.specs.psci_messages.declared.kind.Kind.TheVariants as kinds
+use Rattle.psci_fw_laws.specs.psci_fw_spec.Answer.{enter_outcome}
+use Rattle.psci_headline.specs.psci_fw_spec.Answer.{answer}
+use Rattle.psci_headline.specs.psci_fw_spec.Effects as firmware
+use Rattle.psci_headline.specs.psci_fw_spec.History as remembers
 use Rattle.psci_headline.specs.psci_fw_spec.declared.call.FwCall.TheVariants as calls
 use Rattle.psci_headline.specs.psci_fw_spec.declared.reply.FwReply.TheVariants as replies
-use Rattle.psci_headline.specs.psci_fw_spec.Exchange as firmware
-use Rattle.psci_headline.specs.psci_fw_spec.History as remembers
+use Rattle.psci_headline.specs.psci_world_spec.Legal.{controller_history, firmware_history}
+use Rattle.psci_headline.specs.psci_world_spec.Legal.{legal, place, sent, sent_as}
+use Rattle.psci_headline.proofs.Agreed.{RunLaws}
+use Rattle.psci_headline.proofs.Controls.{found_own}
+use Rattle.psci_headline.proofs.Serving.{AreAdded, numbered_old, one_added}
+use Rattle.psci_headline.proofs.Sending.{EnterSends, entry_moves, entry_sends}
+use Rattle.psci_headline.proofs.Moves.{last_is}
+use Rattle.psci_headline.proofs.Nexts.{SettleLaws}
+use Rattle.psci_headline.proofs.Words.{◌++◌, ◌+◌, ◌<◌, ◌==◌, ◌∙◌, ◌∷◌, ◌≡◌, ◌≤◌, ◌⊎◌, Act, ap}
+use Rattle.psci_headline.proofs.Words.{arith, BoardValue, cases_lt, change, cond, cond-false}
+use Rattle.psci_headline.proofs.Words.{cond-true, controller_values, cores, deliveries}
+use Rattle.psci_headline.proofs.Words.{each_core, Enter, enter_effect, entering, eq-eqb, false}
+use Rattle.psci_headline.proofs.Words.{firmware_values, Fw, in_life, indexed, IsAllowed, IsLegal}
+use Rattle.psci_headline.proofs.Words.{IsLegalPast, last_start, length, List, listed, lt-ltb}
+use Rattle.psci_headline.proofs.Words.{MessageValue, nat_tests, ne_eqb, None, NoneRefused}
+use Rattle.psci_headline.proofs.Words.{OfCore, Option, option_map, Outcome, outcome_in}
+use Rattle.psci_headline.proofs.Words.{place_after, place_said, range_with_len, Record, refl}
+use Rattle.psci_headline.proofs.Words.{Sent, sent_in, Some, Start, Started, step, subst, suc}
+use Rattle.psci_headline.proofs.Words.{sym, unwrap_or, Values, zero, ℕ}
+use Rattle.psci_headline.proofs.fw_laws.Following.{found_life}
+use Rattle.psci_headline.proofs.world_spec.Answered.{firmware_legal}
+
+-- What holds after a step of each core in turn ----------------------------------------------------
+
+-- What a step of a core does: something that holds stays, what was to be done for the core is done,
+-- and what was to be done or is done for another core stays.
+pub record IsStep (does : List Record → ℕ → List Record) (n : ℕ) (Holds : List Record → Type 0)
+    (Todo Done : ℕ → List Record → Type 0) : Type 0 where
+  pub keeps : (past : List Record) (c : ℕ) → c < n → Holds past → Holds (does past c)
+  pub todo : (past : List Record) (c x : ℕ) → c < n → (x ≡ c → ⊥) → Holds past → Todo c past
+      → Todo x past → Todo x (does past c)
+  pub done : (past : List Record) (c x : ℕ) → c < n → (x ≡ c → ⊥) → Holds past → Todo c past
+      → Done x past → Done x (does past c)
+  pub here : (past : List Record) (c : ℕ) → c < n → Holds past → Todo c past
+      → Done c (does past c)
+
+-- What holds after such a step of each core.
+pub record AreDone (n : ℕ) (Holds : List Record → Type 0) (Done : ℕ → List Record → Type 0)
+    (past : List Record) : Type 0 where
+  pub holds : Holds past
+  pub done : (c : ℕ) → c < n → Done c past
+
+from_core : (does : List Record → ℕ → List Record) (n : ℕ) (Holds : List Record → Type 0)
+    (Todo Done : ℕ → List Record → Type 0) → IsStep does n Holds Todo Done
+    → (a rest : ℕ) (past : List Record) → a + rest ≡ n → Holds past
+    → ((c : ℕ) → a ≤ c → c < n → Todo c past) → ((c : ℕ) → c < a → Done c past)
+    → AreDone n Holds Done (each_core does (range_with_len a rest) past)
+from_core does n Holds Todo Done laws a zero past all holds todo done = grind (arith, nat_tests)
+from_core does n Holds Todo Done laws a (suc rest) past all holds todo done =
+    grind (
+      arith,
+      nat_tests,
+      cases_lt,
+      from_core does n Holds Todo Done laws (a + 1) rest (does past a),
+    )
+
+pub each_done : (does : List Record → ℕ → List Record) (n : ℕ) (Holds : List Record → Type 0)
+    (Todo Done : ℕ → List Record → Type 0) → IsStep does n Holds Todo Done
+    → (past : List Record) → Holds past → ((c : ℕ) → c < n → Todo c past)
+    → AreDone n Holds Done (each_core does (range_with_len 0 n) past)
+each_done does n Holds Todo Done laws past holds todo = grind (arith, nat_tests, from_core)
+
+-- Beginning ---------------------------------------------------------------------------------------
 
 -- Effects --------------------------------------------------------------------------------------
 

@@ -1,37 +1,102 @@
 -- What waits, after one call of the power controller or of the firmware.
-use Rattle.psci_headline.proofs.Words.{◌++◌, ◌+◌, ◌<◌, ◌∙◌, ◌∷◌, ◌≡◌, ◌≤◌, ack_by, AckLaws}
-use Rattle.psci_headline.proofs.Words.{Acknowledges, AckValue, Act, AreClaims, AreOutstanding}
-use Rattle.psci_headline.proofs.Words.{AreSent, arith, BoardValue, Bool, cases_eq, Cause, change}
-use Rattle.psci_headline.proofs.Words.{cond, cores, Effect, enter_effect, Enters, false, Holds}
-use Rattle.psci_headline.proofs.Words.{in_life, inl, inr, IsAllowed, IsEntering, IsNamed, Kind}
-use Rattle.psci_headline.proofs.Words.{List, may_follow, MayFollow, message_effect, MessageValue}
-use Rattle.psci_headline.proofs.Words.{nat_lt, nat_tests, None, Option, Parks, Part, PartByPart}
-use Rattle.psci_headline.proofs.Words.{PathLaws, Place, refl, slice_get, Some, Start, Starts}
-use Rattle.psci_headline.proofs.Words.{StopsAtOnce, subst, suc, SumLaws, sym, true, Values}
-use Rattle.psci_headline.proofs.Words.{WaitingIn, with_acknowledgement, zero, ℕ}
-use Rattle.psci_ctl_spec.specs.Effects.{Nothing, Ends, Begins}
-use Rattle.psci_headline.proofs.fw_laws.Arriving.{found_life}
-use Rattle.psci_headline.proofs.fw_laws.Consequences.{once_down}
-use Rattle.psci_headline.proofs.fw_laws.Living.{live_laws}
-use Rattle.psci_headline.proofs.fw_laws.Sums.{known_le}
-use Rattle.psci_headline.proofs.Quiet.{in_life_holds}
-use Rattle.psci_headline.proofs.Agreeing.{AreAgreed, found_other, found_own}
-use Rattle.psci_headline.proofs.Moving.{CallerLaws, call_moves, entry_moves, is_call}
-use Rattle.psci_headline.proofs.Placing.{IsLast}
-use Rattle.psci_headline.proofs.Pursuing.{waiting_other}
-use Rattle.psci_headline.proofs.Moves.{IsOfRecord}
-use Rattle.psci_headline.proofs.Calls.{call_waits, entry_waits}
-use Rattle.psci_headline.proofs.Controls.{IsKnown, begun_waits, down_waits, start_told, start_waits}
-use Rattle.psci_headline.proofs.Taking.{waiting_taken}
+use Rattle.std.proofs.lemmas.List.Sums.{prefix_len_passes}
+use Rattle.psci_ctl_spec.specs.Replies.{Begins, Ends, Nothing}
+use Rattle.psci_ctl_spec.specs.Values.{applied, is_live}
+use Rattle.psci_ctl_spec.specs.psci_messages.Message.{is_climbing}
+use Rattle.psci_fw_laws.specs.Messages.{known_below}
+use Rattle.psci_headline.proofs.Agreed.{call_waits, entry_waits}
+use Rattle.psci_headline.proofs.Controls.{AreAgreed, begun_waits, down_waits, found_other}
+use Rattle.psci_headline.proofs.Controls.{found_own, IsKnown, start_told, start_waits}
+use Rattle.psci_headline.proofs.Moves.{IsLast, IsOfRecord}
+use Rattle.psci_headline.proofs.Sending.{call_moves, CallerLaws, entry_moves, is_call}
+use Rattle.psci_headline.proofs.Pursuing.{same_kind, waiting_other, waiting_taken}
+use Rattle.psci_headline.proofs.Beside.{in_life_holds}
 use Rattle.psci_headline.proofs.Telling.{own_name}
-use Rattle.psci_ctl_spec.specs.psci_messages.declared.start.Cause.TheVariants as causes
-use Rattle.psci_ctl_spec.specs.Changes as controlling
-use Rattle.psci_ctl_spec.specs.Effects as controlling_effects
+use Rattle.psci_headline.proofs.Words.{[], ◌++◌, ◌+◌, ◌<◌, ◌∙◌, ◌∷◌, ◌≡◌, ◌≤◌, ack_by, AckLaws}
+use Rattle.psci_headline.proofs.Words.{Acknowledges, AckValue, Act, and_from, and_parts, ap}
+use Rattle.psci_headline.proofs.Words.{AreClaims, AreOutstanding, ArePartsOf, AreSent, arith}
+use Rattle.psci_headline.proofs.Words.{BoardValue, Bool, cases_eq, Cause, change, cond, confirms_on}
+use Rattle.psci_headline.proofs.Words.{controller_values, cores, Effect, enter_effect, Enters}
+use Rattle.psci_headline.proofs.Words.{eq-eqb, eqb-true, false, firmware_values}
+use Rattle.psci_headline.proofs.Words.{get_or_from_slice_get, get_take, height, Holds, in_life, inl}
+use Rattle.psci_headline.proofs.Words.{inr, is_applied, IsAllowed, IsEntering, IsLegalPast, IsNamed}
+use Rattle.psci_headline.proofs.Words.{Kind, laid, le-leb, List, ltb-true, may_follow, MayFollow}
+use Rattle.psci_headline.proofs.Words.{message_effect, MessageValue, nat_lt, nat_tests, None}
+use Rattle.psci_headline.proofs.Words.{Option, Parks, Part, PartByPart, PathLaws, place, Place}
+use Rattle.psci_headline.proofs.Words.{Record, refl, sent, slice_get, slot_of, Some, Start, Starts}
+use Rattle.psci_headline.proofs.Words.{starts_below, StopsAtOnce, subst, suc, SumLaws, sym, take}
+use Rattle.psci_headline.proofs.Words.{true, up, Values, WaitingIn, with_acknowledgement, zero, ℕ}
+use Rattle.psci_headline.proofs.fw_laws.Following.{found_life}
+use Rattle.psci_headline.proofs.fw_laws.Made.{once_down}
+use Rattle.psci_headline.proofs.fw_laws.Histories.{live_laws}
+use Rattle.psci_headline.proofs.fw_laws.Refusing.{known_le}
+use Rattle.psci_board.proofs.Paths.{path_laws}
+use Rattle.psci_board.specs.Board.{IsBoard}
+use Rattle.psci_fw_laws.proofs.Words.{part-by-part}
+use Rattle.psci_ctl_spec.proofs.Sums.{ack_laws, sum_laws}
+use Rattle.psci_headline.proofs.Runs.{agreement, control_values, run_laws, sent_holds}
+use Rattle.psci_ctl_spec.specs.Replies as controlling
 use Rattle.psci_ctl_spec.specs.Values as controlled
 use Rattle.psci_ctl_spec.specs.psci_messages.declared.kind.Kind.TheVariants as kinds
-use Rattle.psci_headline.specs.psci_fw_spec.Said as says
+use Rattle.psci_ctl_spec.specs.psci_messages.declared.start.Cause.TheVariants as causes
 use Rattle.psci_fw_laws.specs.psci_fw_spec.Effects as effects
 use Rattle.psci_fw_laws.specs.psci_fw_spec.declared.outcome.Act.TheVariants as acts
+
+-- Applied -----------------------------------------------------------------------------------------
+-- What it means that an acknowledgement confirms a claim, and what parts that were applied say.
+
+-- What confirms -------------------------------------------------------------------------------
+
+-- What it means that an acknowledgement confirms the claim on a domain.
+pub record Confirms (b : BoardValue) (v : Values) (a : AckValue) (level place : ℕ) : Type 0 where
+  pub on : place ≡ up b level a.core.number
+  pub some : 0 < v.granted level place
+  pub kind : a.kind ≡ kinds.Down
+  pub applied : level < a.applied
+  pub message : MessageValue
+  pub slot : v.outstanding (slot_of a.kind a.core) ≡ Some message
+  pub part : Part
+  pub at : slice_get message.parts level ≡ Some part
+  pub made : part.generation ≡ known_below b v.known level place
+
+pub confirming : (b : BoardValue) (v : Values) (a : AckValue) (level place : ℕ)
+    → confirms_on b v a level place ≡ true → Confirms b v a level place
+unfolding known_below
+confirming b v a level place e = grind (arith, nat_tests, and_parts, eqb-true, ltb-true, same_kind)
+
+-- Parts ---------------------------------------------------------------------------------------
+
+-- the levels of parts count up
+climbs : (low : ℕ) (ps : List Part) (k : ℕ) (p : Part) → is_climbing low ps ≡ true
+    → slice_get ps k ≡ Some p → p.level ≡ low + k
+climbs low [] k p e at = absurd (cc)
+climbs low (q ∷ ps) zero p e at = grind (arith, nat_tests, and_parts, eqb-true)
+climbs low (q ∷ ps) (suc k) p e at = grind (arith, nat_tests, and_parts, climbs (low + 1) ps k p)
+
+pub levels : (k : Kind) (ps : List Part) (level : ℕ) (p : Part) → k ≡ kinds.Down → ArePartsOf k ps
+    → slice_get ps level ≡ Some p → p.level ≡ level
+levels k ps level p down are at = grind (arith, nat_tests, climbs)
+
+-- a part that is applied is live
+pub applied_live : (b : BoardValue) (v : controlled.Values) (c : ℕ) (ps : List Part) (level : ℕ)
+    (p : Part) → level < applied b v c ps → slice_get ps level ≡ Some p → p.level ≡ level
+    → p.generation ≡ starts_below b v.starts (record { level = level; place = up b level c })
+unfolding applied
+applied_live b v c ps level p few at same =
+    let test : is_applied b v c ps p ≡ true =
+    ap (is_applied b v c ps) (sym (get_or_from_slice_get ps level p p at))
+    ∙ prefix_len_passes (is_applied b v c ps) ps level p few in
+    eqb-true _ _ (and_parts (is_live b v c p) _ test).0
+    ∙ ap (λ l. starts_below b v.starts (record { level = l; place = up b l c })) same
+
+-- a part that was applied made its domain as deep as it says
+pub laid_at : (b : BoardValue) (depth : ℕ → ℕ → ℕ) (c n level place : ℕ) (ps : List Part) (p : Part)
+    → level ≤ height b → place ≡ up b level c → slice_get ps level ≡ Some p → level < n
+    → laid b c (take n ps) depth level place ≡ p.depth
+laid_at b depth c n level place ps p low on at few =
+    grind (arith, nat_tests, and_from, le-leb, eq-eqb, get_take)
+
+-- Carried -----------------------------------------------------------------------------------------
 
 -- What waits in this life, where there is one.
 abbrev pub WaitsNow : BoardValue → controlled.Values → Values → List MessageValue → List AckValue
@@ -106,7 +171,7 @@ acked_kind b w place v sent made k m kinds.Start given at own is may h = by_test
     t : Bool
     t = may_follow b w m.core.number m.number
 
-    effect : controlling_effects.Effect
+    effect : controlling.Effect
     effect = message_effect b m (ack_by b w m kinds.Start) kinds.Start
 
     same_life : (s : Bool) → (controlling.change b (cond s Nothing
@@ -162,14 +227,16 @@ module _ (b : BoardValue) (w : controlled.Values) (place : ℕ → Place) (v : V
   -- a core calls in the power controller's life
   called_own : (e : Effect) (life : ℕ) → w.life ≡ Some life → life ≡ v.life → is_call e ≡ true
       → IsAllowed b v e
-      → WaitingIn b life w (in_life b life (change b e v)) (says.listed (says.sent e) ++ sent) made
+      → WaitingIn b life w (in_life b life (change b e v))
+      (effects.listed (effects.sent e) ++ sent) made
   called_own e life f own is allowed =
       grind (arith, nat_tests, call_moves, found_own, present_known, call_waits)
 
   -- and in another one
   called_other : (e : Effect) (life : ℕ) → w.life ≡ Some life → (life ≡ v.life → ⊥)
       → is_call e ≡ true → IsAllowed b v e
-      → WaitingIn b life w (in_life b life (change b e v)) (says.listed (says.sent e) ++ sent) made
+      → WaitingIn b life w (in_life b life (change b e v))
+      (effects.listed (effects.sent e) ++ sent) made
   called_other e life f other is allowed =
       grind (arith, nat_tests, call_moves, found_other, waiting_other)
 
@@ -177,7 +244,7 @@ module _ (b : BoardValue) (w : controlled.Values) (place : ℕ → Place) (v : V
   entering_waits : (c : ℕ) (s : Start) (act : Act) (o : Option MessageValue) → IsEntering b v c s
       → IsLast w c s → IsAllowed b v (enter_effect c s act o)
       → WaitsNow b w (change b (enter_effect c s act o) v)
-      (says.listed (says.sent (enter_effect c s act o)) ++ sent) made
+      (effects.listed (effects.sent (enter_effect c s act o)) ++ sent) made
   entering_waits c s act o enters last allowed life f =
       grind (
         arith,
@@ -207,7 +274,7 @@ module _ (b : BoardValue) (w : controlled.Values) (place : ℕ → Place) (v : V
   ]
 
   pub effect_waits : (e : Effect) → IsAllowed b v e → IsOfRecord w made e
-      → WaitsNow b w (change b e v) (says.listed (says.sent e) ++ sent) made
+      → WaitsNow b w (change b e v) (effects.listed (effects.sent e) ++ sent) made
   effect_waits effects.Nothing allowed of = h
   effect_waits (Enters c s) allowed of =
       entering_waits c s acts.Resume None allowed.enters
@@ -224,3 +291,26 @@ module _ (b : BoardValue) (w : controlled.Values) (place : ℕ → Place) (v : V
     | inl own ↦ called_own e life f own refl allowed
     | inr other ↦ called_other e life f other refl allowed
   ]
+
+-- What the laws of the crates below say of a board, and so of every legal run on it ---------------
+
+-- what is known after a run, whatever happens next
+abbrev pub Given : BoardValue → List Record → Type 0
+Given b past =
+    IsGiven b (controller_values b past) (place b past) (firmware_values b past) (sent past)
+
+pub is_given : (b : BoardValue) (past : List Record) → IsBoard b → IsLegalPast b past → Given b past
+is_given b past board is = record {
+  sums = sum_laws b;
+  parts = part-by-part;
+  paths = path_laws b board;
+  acks = ack_laws b;
+  callers = (run_laws b board).callers;
+  agreed = record {
+    begun = (agreement b past board is).begun;
+    stopped = (agreement b past board is).stopped;
+    present = (agreement b past board is).present;
+  };
+  holds = sent_holds b past board is;
+  lives = (control_values b past board is).last;
+}

@@ -1,18 +1,21 @@
 -- Worked examples are stated so: a run that is safe at every moment, and a moment at which just one
 -- thing is not as it shall be.
 use Rattle.std.proofs.Common.{map}
-use Rattle.psci_headline.proofs.Words.{◌++◌, ◌<◌, ◌∷◌, ◌≡◌, [], arith, Bool, Event, false}
+use Rattle.psci_board.specs.declared.draft.Core.{Core}
+use Rattle.psci_board.proofs.Tables.{Row}
+use Rattle.psci_ctl_spec.specs.psci_messages.declared.kind.Kind.TheVariants as kinds
+use Rattle.psci_world_spec.specs.Legal.{run_from}
+use Rattle.psci_world_spec.proofs.Scripts as scripts
+use Rattle.psci_fw_laws.specs.psci_board.Board.{BoardValue}
+use Rattle.psci_headline.specs.Safe.{claims, live_claims, openings, taken_up, was_in_state}
+use Rattle.psci_headline.specs.Safe.{was_powered_down}
+use Rattle.psci_headline.proofs.Words.{◌++◌, ◌<◌, ◌∙◌, ◌∷◌, ◌≡◌, [], ap, arith, Bool, changed}
+use Rattle.psci_headline.proofs.Words.{Clear, cond-false, cond-true, eq-eqb, Event, false}
 use Rattle.psci_headline.proofs.Words.{is_always_safe, is_asked, is_each_once, is_each_open}
 use Rattle.psci_headline.proofs.Words.{is_each_real, is_off_down, is_off_stopped, is_one}
-use Rattle.psci_headline.proofs.Words.{is_powered, is_safe, List, nat_tests, Record, Said, true, ℕ}
-use Rattle.psci_board.proofs.Tables.{Row}
-use Rattle.psci_fw_laws.specs.psci_board.Board.{BoardValue}
-use Rattle.psci_world_spec.specs.Legal.{run_from}
-use Rattle.psci_headline.specs.Claims.{claims, live_claims}
-use Rattle.psci_headline.specs.Hardware.{was_in_state}
-use Rattle.psci_headline.specs.Moments.{was_powered_down}
-use Rattle.psci_headline.specs.Openings.{openings, taken_up}
-use Rattle.psci_world_spec.proofs.Scripts as scripts
+use Rattle.psci_headline.proofs.Words.{is_powered, is_safe, is_system, Kind, List, MessageValue}
+use Rattle.psci_headline.proofs.Words.{nat_tests, ne_eqb, OfCore, OfSystem, Option, Put, Record}
+use Rattle.psci_headline.proofs.Words.{Said, Slot, slot_of, Some, true, ℕ}
 
 -- what an example unfolds to compute the tests of a moment
 unfoldable pub computing : Unit {0}
@@ -102,3 +105,40 @@ broken b past k ks = grind (arith, nat_tests)
 abbrev pub WasUnsafe : BoardValue → List Steps → Type 0
 WasUnsafe b steps =
     let past = past_from b [] steps in (is_safe b past ≡ true) × (is_always_safe b past ≡ false)
+
+-- What a change leaves in the slot of a core ------------------------------------------------------
+
+-- the slot of a message that is sent has it
+pub put_here : (outstanding : Slot → Option MessageValue) (m : MessageValue) (c : ℕ)
+    → slot_of m.kind m.core ≡ OfCore c
+    → changed (OfCore c) (Put m) (outstanding (OfCore c)) ≡ Some m
+put_here outstanding m c e = grind (arith, nat_tests, cond-true, eq-eqb)
+
+-- another core's slot is as before
+pub put_there : (outstanding : Slot → Option MessageValue) (m : MessageValue) (c x : ℕ)
+    → slot_of m.kind m.core ≡ OfCore c → (x ≡ c → ⊥)
+    → changed (OfCore x) (Put m) (outstanding (OfCore x)) ≡ outstanding (OfCore x)
+put_there outstanding m c x e ne = grind (arith, nat_tests, cond-false, ne_eqb)
+
+-- a message for the system leaves each core's slot
+pub put_system : (outstanding : Slot → Option MessageValue) (m : MessageValue) (x : ℕ)
+    → slot_of m.kind m.core ≡ OfSystem
+    → changed (OfCore x) (Put m) (outstanding (OfCore x)) ≡ outstanding (OfCore x)
+put_system outstanding m x e = grind (arith, nat_tests, cond-false)
+
+-- a core that enters leaves another core's slot
+pub clear_there : (outstanding : Slot → Option MessageValue) (c x : ℕ) → (x ≡ c → ⊥)
+    → changed (OfCore x) (Clear (record { number = c })) (outstanding (OfCore x))
+    ≡ outstanding (OfCore x)
+clear_there outstanding c x ne = grind (arith, nat_tests, cond-false, ne_eqb)
+
+-- the slots of kinds
+pub system_slot : (k : Kind) (core : Core) → is_system k ≡ true → slot_of k core ≡ OfSystem
+system_slot k core e = grind (arith, nat_tests)
+
+pub core_slot : (k : Kind) (core : Core) → is_system k ≡ false → slot_of k core ≡ OfCore core.number
+core_slot k core e = grind (arith, nat_tests)
+
+pub down_slot : (k : Kind) (core : Core) (c : ℕ) → k ≡ kinds.Down → core.number ≡ c
+    → slot_of k core ≡ OfCore c
+down_slot k core c kind own = ap (λ x. slot_of x core) kind ∙ ap OfCore own

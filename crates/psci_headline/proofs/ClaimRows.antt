@@ -2,18 +2,18 @@
 -- than was asked for.
 use Rattle.std.proofs.Common.{◌≡◌, ◌++◌, ℕ, Bool, List, [], ◌∷◌, false, map, true, refl}
 use Rattle.psci_board.proofs.Tables.{Gives}
-use Rattle.psci_fw_laws.specs.psci_board.declared.node.Node.{Node}
+use Rattle.psci_fw_laws.specs.psci_board.declared.draft.Node.{Node}
 use Rattle.psci_fw_laws.specs.psci_messages.declared.kind.Kind.TheVariants.{Down}
 use Rattle.psci_world_spec.specs.declared.event.Event.{Event}
 use Rattle.psci_world_spec.specs.declared.event.Event.TheVariants.{Enter, Wake, Deliver}
 use Rattle.psci_world_spec.specs.Legal.{run_from}
-use Rattle.psci_world_spec.proofs.Scripts.{acked, goes_down, board, call, off, part, retention}
+use Rattle.psci_world_spec.proofs.Scripts.{acked, board, call, goes_down, off, part, retention}
 use Rattle.psci_world_spec.proofs.Scripts.{system_reset}
-use Rattle.psci_headline.specs.Claims.{Claim, claims}
-use Rattle.psci_headline.proofs.Histories.{both_os_initiated, at, both_on, on_os_initiated, standby}
-use Rattle.psci_headline.proofs.Histories.{third_on}
-use Rattle.psci_headline.proofs.Checking.{◌⇒◌, Asked, BreakAll, Breaks, Legal, One, Powered}
-use Rattle.psci_headline.proofs.Checking.{computing, failing_after}
+use Rattle.psci_headline.specs.Safe.{Claim, claims}
+use Rattle.psci_headline.proofs.Histories.{at, both_on, both_os_initiated, on_os_initiated}
+use Rattle.psci_headline.proofs.Histories.{standby, third_on}
+use Rattle.psci_headline.proofs.Checking.{◌⇒◌, Asked, BreakAll, Breaks, computing, failing_after}
+use Rattle.psci_headline.proofs.Checking.{Legal, One, Powered}
 
 -- a claim: depth, generation, whether it was asked for
 abbrev claim : ℕ → ℕ → Bool → Claim

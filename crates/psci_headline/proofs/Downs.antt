@@ -1,28 +1,204 @@
 -- What is so after an outstanding Down was served.
 use Rattle.std.proofs.lemmas.Bool.{leb-false}
-use Rattle.psci_headline.proofs.Words.{◌+◌, ◌<◌, ◌==◌, ◌∙◌, ◌≡◌, ◌≤◌, ack_by, AckLaws, ap, applied}
-use Rattle.psci_headline.proofs.Words.{arith, BoardValue, Bool, cases_lt, cond, controller_values}
-use Rattle.psci_headline.proofs.Words.{Deepens, deliveries, false, firmware_values, indexed, inl}
-use Rattle.psci_headline.proofs.Words.{inr, is_done, is_kind, is_stale, IsFront, IsLivePart, laid}
-use Rattle.psci_headline.proofs.Words.{length, List, MessageValue, nat_tests, None, not, OfCore}
-use Rattle.psci_headline.proofs.Words.{or_parts, Part, place, Record, same_Some, sent, serving}
-use Rattle.psci_headline.proofs.Words.{slice_get, Some, subst, sym, take, take_get, up, Values, ℕ}
-use Rattle.psci_ctl_spec.proofs.Front.{is_front}
-use Rattle.psci_headline.proofs.fw_laws.Consequences.{once_down}
-use Rattle.psci_headline.proofs.Items.{at_number}
-use Rattle.psci_headline.proofs.Serving.{ack_to, IsEmptying, empties}
-use Rattle.psci_headline.proofs.Applying.{IsReady, part_applied}
-use Rattle.psci_headline.proofs.Claimed.{AreDeep}
-use Rattle.psci_headline.proofs.Controls.{IsKnown, part_level}
-use Rattle.psci_headline.proofs.Deepening.{AreApplied, keeps}
-use Rattle.psci_headline.proofs.Finding.{HasNumber}
-use Rattle.psci_headline.proofs.Going.{IsGoing, IsOut, known_now, ready_now}
-use Rattle.psci_headline.proofs.Standing.{SettleLaws}
-use Rattle.psci_headline.proofs.Starting.{same_sum}
+use Rattle.psci_ctl_spec.proofs.Depths.{is_front}
+use Rattle.psci_world_spec.specs.Legal.{acks, controller_history, firmware_history}
+use Rattle.psci_headline.proofs.Applying.{AreDeep, IsReady, part_applied}
+use Rattle.psci_headline.proofs.Controls.{AreApplied, IsKnown, keeps, part_level}
+use Rattle.psci_headline.proofs.CoreSteps.{IsStep, step, TurnsOff}
+use Rattle.psci_headline.proofs.Covering.{life_before}
+use Rattle.psci_headline.proofs.Serving.{ack_to, empties, HasNumber, IsEmptying}
+use Rattle.psci_headline.proofs.Starts.{IsGoing, IsOut, known_now, ready_now}
+use Rattle.psci_headline.proofs.Sending.{at_number}
+use Rattle.psci_headline.proofs.Moves.{moves}
+use Rattle.psci_headline.proofs.Nexts.{acks_more, asleep_from, by_ack, goes_running, IsNext, report}
+use Rattle.psci_headline.proofs.Nexts.{reported, SettleLaws, slept_now, slept_still}
+use Rattle.psci_headline.proofs.Pursuing.{named, same_sum}
 use Rattle.psci_headline.proofs.Telling.{item_at, told_down}
-use Rattle.psci_ctl_spec.specs.Changes as controlling
+use Rattle.psci_headline.proofs.Words.{[], ◌+◌, ◌<◌, ◌==◌, ◌∙◌, ◌∷◌, ◌≡◌, ◌≤◌, ack_by, ack_in}
+use Rattle.psci_headline.proofs.Words.{AckLaws, AckValue, Agree, and_right, ap, applied, AreDown}
+use Rattle.psci_headline.proofs.Words.{AreValues, arith, BoardValue, Bool, cases_lt, cond}
+use Rattle.psci_headline.proofs.Words.{controller_values, cores, Deepens, deliveries, Down}
+use Rattle.psci_headline.proofs.Words.{eqb-false, eqb-true, false, firmware_legal, firmware_values}
+use Rattle.psci_headline.proofs.Words.{Holds, indexed, inl, inr, is_done, is_kind, is_reported_off}
+use Rattle.psci_headline.proofs.Words.{is_stale, IsAllowed, IsAwaited, IsFront, IsLegalPast}
+use Rattle.psci_headline.proofs.Words.{IsLivePart, laid, length, List, MessageValue, nat_tests}
+use Rattle.psci_headline.proofs.Words.{ne_eqb, None, not, OfCore, Off, OffIsDown, Option, or_parts}
+use Rattle.psci_headline.proofs.Words.{Part, place, Record, refl, Running, same_Some, sent, serving}
+use Rattle.psci_headline.proofs.Words.{slice_get, Some, start_of_life, subst, sym, take, take_get}
+use Rattle.psci_headline.proofs.Words.{true, up, Values, was_powered_down, ℕ}
+use Rattle.psci_headline.proofs.fw_laws.Made.{once_down}
+use Rattle.psci_board.proofs.Paths.{path_laws}
+use Rattle.psci_board.specs.Board.{IsBoard}
+use Rattle.psci_headline.proofs.Runs.{agreement, firmware_laws, run_values, sent_holds}
+use Rattle.psci_ctl_spec.specs.Replies as controlling
 use Rattle.psci_ctl_spec.specs.Values as controlled
 use Rattle.psci_ctl_spec.specs.psci_messages.declared.kind.Kind.TheVariants as kinds
+use Rattle.psci_fw_laws.specs.psci_fw_spec.Phases as phases
+use Rattle.psci_fw_laws.specs.psci_fw_spec.declared.status.Status.TheVariants as statuses
+
+-- Cores that are reported OFF do not run, and were powered down, after every legal past -----------
+
+-- Lives that the firmware does not know of -----------------------------------------------------
+
+first_deep : (b : BoardValue) (c : ℕ) → IsBoard b → (c ≡ 0 → ⊥) → controlled.first_depth b 0 c ≡ 3
+first_deep b c board other =
+    grind (arith, nat_tests, ne_eqb, and_right, (path_laws b board).core)
+
+fresh_next : (b : BoardValue) (r : Record) (past : List Record) (life c : ℕ) → IsBoard b
+    → IsNext b r past → AreDown b past → (controller_values b (r ∷ past)).life ≡ Some life
+    → ((firmware_values b (r ∷ past)).life ≡ life → ⊥) → (c ≡ 0 → ⊥)
+    → was_powered_down b life (r ∷ past) c ≡ true
+fresh_next b r past life c board next are now unknown other =
+    elim (life_before b r past life now) [
+      | inl before ↦ grind (arith, nat_tests, step, slept_still)
+      | inr first ↦ grind (arith, nat_tests, slept_now, asleep_from, first_deep)
+    ]
+
+-- Reports --------------------------------------------------------------------------------------
+
+-- What an acknowledgement has in common with the message that it answers.
+record IsOfKnown (v : Values) (a : AckValue) : Type 0 where
+  pub life : a.life ≡ v.life
+  pub number : a.number ≡ v.known a.core.number
+
+-- an acknowledgement of an outstanding Down is of this life and the known start
+answers_known : (v : Values) (messages : List MessageValue) (b : BoardValue) (a : AckValue)
+    → Holds b v messages → IsAwaited v a → a.kind ≡ Down → IsOfKnown v a
+answers_known v messages b a holds is kind =
+    let m = is.message in
+    let c = a.core.number in
+    let slot : v.outstanding (OfCore c) ≡ Some m = grind (arith, nat_tests) in
+    let of = holds.slots.core c m slot in
+    let name = named a m is.answers in
+    record { life = name.life ∙ of.listed.present; number = name.number ∙ of.number }
+
+-- a core that an acknowledgement turns off was powered down
+turned_off : (b : BoardValue) (r : Record) (past : List Record) (c : ℕ)
+    → (next : IsNext b r past) → AreDown b past
+    → TurnsOff (firmware_values b past) c next.moves.effect
+    → was_powered_down b (firmware_values b past).life past c ≡ true
+turned_off b r past c next are t =
+    let v : Values = firmware_values b past in
+    let made = next.moves.says.takes t.ack t.is in
+    let down = are.acked made.index t.ack made.at t.kind t.some in
+    let known = answers_known v (sent past) b t.ack next.holds
+    (subst (IsAllowed b v) t.is next.moves.allowed) t.kind in
+    subst (λ x. was_powered_down b v.life past x ≡ true) t.core
+    (down.slept known.life known.number (ap v.phase t.core ∙ t.away))
+
+-- a core that is reported OFF was powered down in the firmware's life, also where that is new
+was_down : (b : BoardValue) (r : Record) (past : List Record) (c : ℕ) (t : Bool) → IsNext b r past
+    → AreDown b past
+    → ((firmware_values b (r ∷ past)).life == (firmware_values b past).life) ≡ t
+    → 0 < (firmware_values b (r ∷ past)).life
+    → (firmware_values b (r ∷ past)).status c ≡ statuses.Off
+    → was_powered_down b (firmware_values b (r ∷ past)).life past c ≡ true
+was_down b r past c true next are test begun off =
+    let v : Values = firmware_values b past in
+    let w : Values = firmware_values b (r ∷ past) in
+    let same : w.life ≡ v.life = eqb-true w.life v.life test in
+    subst (λ l. was_powered_down b l past c ≡ true) (sym same)
+    (elim ((next.step c).off same off) [
+      | inl was ↦ are.off c (report b past c (omega arith) was)
+      | inr turns ↦ turned_off b r past c next are turns
+    ])
+was_down b r past c false next are test begun off =
+    let w : Values = firmware_values b (r ∷ past) in
+    let other = eqb-false w.life (firmware_values b past).life test in
+    let starts = (next.step c).begins other in
+    let present = (next.moves.says.starts starts.arrival starts.is).life in
+    are.fresh w.life c (present ∙ ap (λ x. Some x) starts.new) (λ e. other (sym e))
+    ((next.step c).boot other off)
+
+off_next : (b : BoardValue) (r : Record) (past : List Record) (c : ℕ) → IsNext b r past
+    → AreDown b past → is_reported_off b (r ∷ past) c ≡ true
+    → was_powered_down b (firmware_values b (r ∷ past)).life (r ∷ past) c ≡ true
+off_next b r past c next are e =
+    grind (arith, nat_tests, reported, slept_still, was_down, goes_running)
+
+-- All pasts ------------------------------------------------------------------------------------
+
+pub next_of : (b : BoardValue) (r : Record) (past : List Record) → IsBoard b
+    → IsLegalPast b (r ∷ past) → IsNext b r past
+next_of b r past board is =
+    let m = moves b r past (firmware_laws b board) is.0 (firmware_legal b (r ∷ past) is) in
+    let v : Values = firmware_values b past in
+    record {
+      moves = m;
+      step = λ c. subst (λ w. IsStep v w c m.effect) (sym m.values) (step b v c m.effect m.allowed);
+      holds = sent_holds b past board is.1;
+      said = is.0;
+      begun = (agreement b (r ∷ past) board is).begun;
+    }
+
+pub first_life : (b : BoardValue) → (firmware_values b []).life ≡ 0
+unfolding firmware_history Rattle.psci_fw_laws.specs.psci_fw_spec.History.values_of
+first_life b = refl
+
+no_acks : (k : ℕ) (a : AckValue) → slice_get (acks []) k ≡ Some a → ⊥
+unfolding acks
+no_acks k a e = absurd (cc)
+
+pub first_controlled : (b : BoardValue) → controller_values b [] ≡ controlled.start_of_life b
+unfolding controller_history Rattle.psci_ctl_spec.specs.History.values_of
+first_controlled b = refl
+
+first_down : (b : BoardValue) → IsBoard b → AreDown b []
+first_down b board =
+    grind (
+      arith,
+      nat_tests,
+      reported,
+      first_life,
+      no_acks,
+      slept_now,
+      asleep_from,
+      first_controlled,
+      first_deep,
+    )
+
+pub all_down : (b : BoardValue) (past : List Record) → IsBoard b → IsLegalPast b past
+    → AreDown b past
+all_down b [] board is = first_down b board
+all_down b (r ∷ past) board is =
+    let next : IsNext b r past = next_of b r past board is in
+    let are : AreDown b past = all_down b past board is.1 in
+    record {
+      off = λ c. off_next b r past c next are;
+      acked = λ k a at.
+          by_ack b r past (ack_in r.said) k a board next are refl
+          (ap (λ xs. slice_get xs k) (sym (acks_more r past)) ∙ at);
+      fresh = λ life c. fresh_next b r past life c board next are;
+    }
+
+-- Reported OFF ---------------------------------------------------------------------------------
+
+by_life : (b : BoardValue) (v : Values) (c life : ℕ) (t : Bool) → AreValues b v → v.status c ≡ Off
+    → (cond t v (start_of_life b life)).phase c ≡ phases.Running → ⊥
+by_life b v c life t are off runs = grind (arith, nat_tests)
+
+not_running : (b : BoardValue) (past : List Record) (c : ℕ) (o : Option ℕ) → Agree b past
+    → AreValues b (firmware_values b past) → c < cores b
+    → (firmware_values b past).status c ≡ Off → (controller_values b past).life ≡ o
+    → place b past c ≡ Running → ⊥
+not_running b past c None agree are on off life runs = grind (arith, nat_tests)
+not_running b past c (Some l) agree are on off life runs =
+    let v : Values = firmware_values b past in
+    by_life b v c l (l == v.life) are off ((agree.present l life).runs c on runs)
+
+pub off_is_down : (b : BoardValue) (past : List Record) → IsBoard b → IsLegalPast b past
+    → OffIsDown b past
+off_is_down b past board is c on off = grind (
+  arith,
+  nat_tests,
+  not_running,
+  reported,
+  all_down,
+  run_values b past board is,
+  agreement b past board is,
+)
+
+-- Downs -------------------------------------------------------------------------------------------
 
 -- The found message is the outstanding one -----------------------------------------------------
 

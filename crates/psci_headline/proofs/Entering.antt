@@ -1,28 +1,65 @@
 -- After every legal history each entry has taken up an opening of its own.
 use Rattle.std.specs.Option.{option_or}
-use Rattle.psci_headline.proofs.Words.{◌++◌, ◌==◌, ◌∷◌, ◌≡◌, ◌≤◌, [], Act, AreTakenUp, arith}
-use Rattle.psci_headline.proofs.Words.{arrived, AsksOn, BoardValue, Bool, change, cond, Effect}
-use Rattle.psci_headline.proofs.Words.{effect, effect_of, enter_effect, enter_fault, EnteredAt}
-use Rattle.psci_headline.proofs.Words.{Enters, enters_or_resumes_by, eqb-false, eqb-true, false}
-use Rattle.psci_headline.proofs.Words.{FwCall, FwExchange, FwFault, FwReply, in_life, IsAllowed}
-use Rattle.psci_headline.proofs.Words.{IsLegal, length, List, listed, Made, made_at, MessageValue}
-use Rattle.psci_headline.proofs.Words.{nat_tests, None, OfCall, OfLife, Opening, Option, option_map}
-use Rattle.psci_headline.proofs.Words.{Outcome, Parks, refl, reply_or, Rests, Some, Start}
-use Rattle.psci_headline.proofs.Words.{start_of_life, StopsAtOnce, subst, suc, sym, TakenUp}
-use Rattle.psci_headline.proofs.Words.{updated, updated_at, Values, ℕ}
-use Rattle.psci_fw_laws.specs.psci_fw_spec.Entering.{outcome_at, enter_outcome}
-use Rattle.psci_fw_laws.specs.psci_fw_spec.Outcomes.{stops}
-use Rattle.psci_fw_laws.specs.psci_fw_spec.Answer.{answer}
+use Rattle.psci_fw_laws.specs.psci_fw_spec.Answer.{answer, enter_outcome, function_outcome}
+use Rattle.psci_fw_laws.specs.psci_fw_spec.Answer.{outcome_at, outcome_of}
 use Rattle.psci_fw_laws.specs.psci_fw_spec.History.{life, values_of}
-use Rattle.psci_headline.specs.Openings.{entered_by, entered_to, made_for_boot, openings, taken_up}
-use Rattle.psci_headline.proofs.Functions.{call_ends}
-use Rattle.psci_headline.proofs.Naming.{AreNamed, made_in, names_target, same_made}
-use Rattle.psci_headline.proofs.Waiting.{taken_up_by, taking, AreWaiting, begun, called, fewer}
-use Rattle.psci_headline.proofs.Waiting.{none_waiting, one_more}
+use Rattle.psci_fw_laws.specs.psci_fw_spec.PowerCalls.{stops}
+use Rattle.psci_fw_laws.specs.psci_fw_spec.declared.fault.FwFault.TheVariants.{NoCore, NoLife}
+use Rattle.psci_fw_laws.specs.psci_fw_spec.declared.fault.FwFault.TheVariants.{NotRunning}
+use Rattle.psci_headline.specs.Safe.{core_asked, entered_by, entered_to, made_by, made_for_boot}
+use Rattle.psci_headline.specs.Safe.{openings, taken_up}
+use Rattle.psci_headline.proofs.Moves.{call_ends}
+use Rattle.psci_headline.proofs.Waiting.{AreWaiting, begun, called, fewer, none_waiting, one_more}
+use Rattle.psci_headline.proofs.Waiting.{taken_up_by, taking}
+use Rattle.psci_headline.proofs.Words.{[], ◌++◌, ◌<◌, ◌==◌, ◌∷◌, ◌≡◌, ◌≤◌, acks, Act, AreTakenUp}
+use Rattle.psci_headline.proofs.Words.{arith, arrived, AsksOn, BoardValue, Bool, Call, call}
+use Rattle.psci_headline.proofs.Words.{call_fault, change, Code, cond, controller_values, Effect}
+use Rattle.psci_headline.proofs.Words.{effect, effect_of, enter_effect, enter_fault, EnteredAt}
+use Rattle.psci_headline.proofs.Words.{Enters, enters_or_resumes_by, eqb-false, eqb-true, Event}
+use Rattle.psci_headline.proofs.Words.{false, firmware_history, firmware_values, Fw, FwCall}
+use Rattle.psci_headline.proofs.Words.{FwExchange, FwFault, FwReply, in_life, IsAllowed, IsLegal}
+use Rattle.psci_headline.proofs.Words.{length, List, listed, Made, made_at, MessageValue, nat_tests}
+use Rattle.psci_headline.proofs.Words.{None, not, OfCall, OfLife, Opening, Option, option_map}
+use Rattle.psci_headline.proofs.Words.{Outcome, outcome_in, Parks, PowerOn, Record, refl, Regs}
+use Rattle.psci_headline.proofs.Words.{reply_or, Request, request_of, Rests, Said, Sent, Smc, Some}
+use Rattle.psci_headline.proofs.Words.{Start, start_of_life, StopsAtOnce, subst, suc, sym, TakenUp}
+use Rattle.psci_headline.proofs.Words.{target, updated, updated_at, Values, ℕ}
+use Rattle.psci_fw_laws.proofs.Histories.{legal_allowed, values_after}
+use Rattle.psci_board.specs.Board.{IsBoard}
+use Rattle.psci_fw_laws.proofs.fw_spec.Changing.{was_asked}
 use Rattle.psci_fw_laws.specs.psci_fw_spec.declared.call.FwCall.TheVariants as calls
 use Rattle.psci_fw_laws.specs.psci_fw_spec.declared.outcome.Act.TheVariants as acts
 use Rattle.psci_fw_laws.specs.psci_fw_spec.declared.reply.FwReply.TheVariants as replies
 use Rattle.psci_headline.proofs.Waiting as waiting
+
+-- In a legal history an accepted CPU_ON asks on the core that it named ----------------------------
+
+-- Which core a call named ----------------------------------------------------------------------
+
+-- if a call came down to this, it named the core that was asked on
+abbrev pub NamesTarget : BoardValue → FwCall → Effect → Type 0
+NamesTarget b call f = (caller : ℕ) (asked : PowerOn) → f ≡ AsksOn caller asked
+    → core_asked b call ≡ Some (target asked)
+
+pub names_target : (b : BoardValue) (v : Values) (c : ℕ) (call : FwCall) (reply : FwReply)
+    → reply ≡ answer b v c call → NamesTarget b call (effect_of b c call reply)
+names_target b v c call reply e caller asked is = grind (arith, nat_tests, was_asked b v c)
+
+-- What a call made -----------------------------------------------------------------------------
+
+-- the opening that an effect made in a life, after so many entries: of a core that was asked on, it
+-- is that of the effect
+abbrev pub made_in : ℕ → ℕ → Effect → Option Made
+made_in n life (AsksOn c asked) = made_at (OfCall n) (target asked) life (Some asked.opening)
+made_in n life (Rests c rest m) = made_at (OfCall n) c life rest.opening
+made_in n life f = None
+
+-- it is the opening that the call made
+pub same_made : (b : BoardValue) (n life : ℕ) (call : FwCall) (f : Effect) → NamesTarget b call f
+    → made_by b n life call f ≡ made_in n life f
+same_made b n life call f names = grind (arith, nat_tests)
+
+-- Entering ----------------------------------------------------------------------------------------
 
 -- What an answer says of an entry --------------------------------------------------------------
 
@@ -148,11 +185,6 @@ module _ (b : BoardValue) (n : ℕ) (v : Values) (made : List Made) (taken : Lis
 
 -- Histories ------------------------------------------------------------------------------------
 
--- What is known of one more exchange.
-pub record IsStep (b : BoardValue) (e : FwExchange) (h : List FwExchange) : Type 0 where
-  pub allowed : IsAllowed b (values_of b h) (effect b e)
-  pub values : values_of b (e ∷ h) ≡ change b (effect b e) (values_of b h)
-
 -- what holds after a history
 abbrev AreAfter : BoardValue → List FwExchange → Values → Type 0
 AreAfter b h v = AreWaiting (length h) v.life v.opening (openings b h) (taken_up b h)
@@ -161,36 +193,75 @@ first_after : (b : BoardValue) → AreAfter b [] (values_of b [])
 unfolding values_of openings taken_up
 first_after b = none_waiting b
 
-more_after : (b : BoardValue) (e : FwExchange) (h : List FwExchange) → AreNamed b → IsStep b e h
+more_after : (b : BoardValue) (e : FwExchange) (h : List FwExchange) → IsBoard b
     → IsLegal b (e ∷ h) → AreAfter b h (values_of b h)
     → AreAfter b (e ∷ h) (change b (effect b e) (values_of b h))
 unfolding values_of openings taken_up
-more_after b e h law step legal are =
+more_after b e h board legal are =
     let v : Values = values_of b h in
     let w : Values = change b (effect b e) v in
     let to : Option EnteredAt = entered_by v.life e.core e.call e.reply in
     let before : List Made =
     listed (made_for_boot b v.life (arrived (effect b e))) ++ openings b h in
-    let names = names_target b v e.core e.call e.reply law legal.0 in
+    let names = names_target b v e.core e.call e.reply legal.0 in
     subst (λ (made : Option Made). AreWaiting (suc (length h)) w.life w.opening
     (listed made ++ before)
     (listed (option_map (λ x. taking x (listed made ++ before)) to) ++ taken_up b h))
     (sym (same_made b (length h) v.life e.call (effect b e) names))
-    (stays b (length h) v (openings b h) (taken_up b h) are (effect b e) to step.allowed
+    (stays b (length h) v (openings b h) (taken_up b h) are (effect b e) to
+    (legal_allowed b e h board legal)
     (λ x is. has_entered b v v.life e.core e.call e.reply x legal.0 is))
 
-are_waiting : (b : BoardValue) (h : List FwExchange) → AreNamed b
-    → ((e : FwExchange) (g : List FwExchange) → IsLegal b (e ∷ g) → IsStep b e g) → IsLegal b h
+are_waiting : (b : BoardValue) (h : List FwExchange) → IsBoard b → IsLegal b h
     → AreAfter b h (values_of b h)
-are_waiting b [] law steps legal = first_after b
-are_waiting b (e ∷ h) law steps legal =
-    let step = steps e h legal in
-    subst (AreAfter b (e ∷ h)) (sym step.values)
-    (more_after b e h law step legal (are_waiting b h law steps legal.1))
+are_waiting b [] board legal = first_after b
+are_waiting b (e ∷ h) board legal =
+    subst (AreAfter b (e ∷ h)) (sym (values_after b e h))
+    (more_after b e h board legal (are_waiting b h board legal.1))
 
-pub are_taken_up : (b : BoardValue) (h : List FwExchange) → AreNamed b
-    → ((e : FwExchange) (g : List FwExchange) → IsLegal b (e ∷ g) → IsStep b e g) → IsLegal b h
+pub are_taken_up : (b : BoardValue) (h : List FwExchange) → IsBoard b → IsLegal b h
     → AreTakenUp b h
-are_taken_up b h law steps legal =
-    let are = are_waiting b h law steps legal in
+are_taken_up b h board legal =
+    let are = are_waiting b h board legal in
     record { each = are.each; once = are.once }
+
+-- What a record says that a call returned is what its function answers, in a life -----------------
+
+-- A core is answered this code to its request, in a life.
+pub record IsReturned (b : BoardValue) (v : Values) (d : ℕ) (r : Request) (code : Code)
+    : Type 0 where
+  pub begun : 0 < v.life
+  pub by : acts.Return code ≡ (function_outcome b v d r).act
+
+by_outcome : (b : BoardValue) (v : Values) (d : ℕ) (r : Request) (code : Code) (o : Outcome)
+    → 0 < v.life → o.act ≡ acts.Return code → o ≡ outcome_of b v d r → IsReturned b v d r code
+unfolding outcome_of
+by_outcome b v d r code o begun act is = grind (arith, nat_tests)
+
+-- a call that is no fault is made in a life
+some_life : (life : ℕ) (s t u : Bool) → (life == 0) ≡ t
+    → cond (not s) (Some NoCore) (cond t (Some NoLife) (cond u None (Some NotRunning))) ≡ None
+    → 0 < life
+some_life life s t u is e = grind (arith, nat_tests)
+
+by_fault : (b : BoardValue) (v : Values) (d : ℕ) (r : Request) (code : Code) (o : Outcome)
+    (f : Option FwFault) → call_fault b v d ≡ f → o.act ≡ acts.Return code
+    → replies.Out o ≡ reply_or f (outcome_of b v d r) → IsReturned b v d r code
+by_fault b v d r code o f none act e = grind (arith, nat_tests, by_outcome, some_life)
+
+by_answer : (b : BoardValue) (v : Values) (d : ℕ) (regs : Regs) (code : Code) (o : Outcome)
+    → o.act ≡ acts.Return code → replies.Out o ≡ answer b v d (Smc regs)
+    → IsReturned b v d (request_of regs) code
+unfolding answer
+by_answer b v d regs code o act e = grind (arith, nat_tests, by_fault)
+
+-- the history after a record, whose event says this
+abbrev pub Extended : BoardValue → List Record → Event → Said → Type 0
+Extended b past event said =
+    IsLegal b (call (controller_values b past) (acks past) event said ++ firmware_history b past)
+
+pub returned : (b : BoardValue) (past : List Record) (d : ℕ) (regs : Regs) (code : Code)
+    (m : Option Sent) → Extended b past (Call d regs) (Fw (acts.Return code) m)
+    → IsReturned b (firmware_values b past) d (request_of regs) code
+returned b past d regs code m valid =
+    by_answer b (firmware_values b past) d regs code (outcome_in (acts.Return code) m) refl valid.0

@@ -4,24 +4,23 @@ use Rattle.std.proofs.lemmas.List.Sums.{list_all-from_AllPass}
 use Rattle.psci_headline.proofs.Words.{◌++◌, ◌+◌, ◌<◌, ◌==◌, ◌||◌, ◌∙◌, ◌∷◌, ◌≡◌, ◌≤◌, [], ap}
 use Rattle.psci_headline.proofs.Words.{AreAtRest, arith, BoardValue, Bool, cases_Bool, cases_eq}
 use Rattle.psci_headline.proofs.Words.{cores, deliveries, Down, eq-eqb, filter, HasNode, height}
-use Rattle.psci_headline.proofs.Words.{hw_code, indexed, inl, inr, is_away, is_kind, is_off_status}
-use Rattle.psci_headline.proofs.Words.{is_some, is_started, IsSettled, IsToldWhole, le-leb, length}
-use Rattle.psci_headline.proofs.Words.{List, list_all, list_any, MessageValue, nat_tests, Node}
-use Rattle.psci_headline.proofs.Words.{nodes, None, not, OfCore, OfSystem, Option, or_left}
-use Rattle.psci_headline.proofs.Words.{or_right, range_with_len, refl, sent, Some, suc, sym, true}
-use Rattle.psci_headline.proofs.Words.{zero, ℕ}
-use Rattle.psci_fw_laws.proofs.Passing.{one_all}
+use Rattle.psci_headline.proofs.Words.{hw_code, indexed, inl, inr, is_away, is_kind}
+use Rattle.psci_headline.proofs.Words.{is_off_status, is_some, is_started, IsSettled}
+use Rattle.psci_headline.proofs.Words.{IsToldWhole, le-leb, length, List, list_all, list_any}
+use Rattle.psci_headline.proofs.Words.{MessageValue, nat_tests, Node, nodes, None, not, OfCore}
+use Rattle.psci_headline.proofs.Words.{OfSystem, Option, or_left, or_right, range_with_len, refl}
+use Rattle.psci_headline.proofs.Words.{sent, Some, suc, sym, true, zero, ℕ}
+use Rattle.psci_fw_laws.proofs.Refusing.{one_all}
 use Rattle.psci_headline.specs.psci_world_spec.declared.place.Place.{Place}
 use Rattle.psci_headline.specs.psci_world_spec.declared.said.Record.{Record}
-use Rattle.psci_headline.specs.psci_world_spec.Histories.{controller_values, firmware_values}
-use Rattle.psci_headline.specs.psci_world_spec.Places.{place}
+use Rattle.psci_headline.specs.psci_world_spec.Legal.{controller_values, firmware_values, place}
 use Rattle.psci_headline.proofs.CoreSteps.{phase_away}
 use Rattle.psci_headline.proofs.Checking.{each, if_fails}
-use Rattle.psci_headline.proofs.Failing.{Clause, Saying, downs, unsettled, failing, if_some}
-use Rattle.psci_headline.proofs.Failing.{is_agreed, is_down}
-use Rattle.psci_headline.proofs.Finding.{indexed_at}
-use Rattle.psci_headline.proofs.Slept.{status_off}
-use Rattle.psci_headline.proofs.Taking.{same_kind}
+use Rattle.psci_headline.proofs.Failing.{Clause, downs, failing, if_some, is_agreed, is_down}
+use Rattle.psci_headline.proofs.Failing.{Saying, unsettled}
+use Rattle.psci_headline.proofs.Serving.{indexed_at}
+use Rattle.psci_headline.proofs.Nexts.{status_off}
+use Rattle.psci_headline.proofs.Pursuing.{same_kind}
 use Rattle.psci_headline.proofs.Untold.{follows, is_gone, is_off, is_told_hw}
 use Rattle.psci_headline.specs.psci_world_spec.declared.place.Place.TheVariants as places
 use Rattle.psci_headline.proofs.Untold as untold

@@ -1,15 +1,14 @@
 -- Worked examples are stated so: what is not as it is at rest, or as it is once the world has
 -- settled. Where something is not, `not_at_rest` and `not_settled` exclude it.
-use Rattle.std.specs.Prelude.{◌++◌, ℕ, ◌+◌, Bool, false, ◌==◌, ◌||◌, not, List, [], ◌∷◌, length}
-use Rattle.std.specs.Prelude.{filter, take, Option, None, Some, is_some}
+use Rattle.std.specs.Prelude.{◌++◌, ◌+◌, ◌==◌, ◌||◌, ◌∷◌, [], Bool, false, filter, is_some}
+use Rattle.std.specs.Prelude.{length, List, None, not, Option, Some, take, ℕ}
 use Rattle.psci_headline.proofs.Words.{BoardValue, cores, deliveries, Down, height, indexed}
 use Rattle.psci_headline.proofs.Words.{is_kind, is_settling, is_started, list_all, list_any}
 use Rattle.psci_headline.proofs.Words.{MessageValue, nat_le, nodes, OfCore, OfSystem}
 use Rattle.psci_headline.proofs.Words.{range_with_len, run_from, sent}
 use Rattle.psci_headline.specs.psci_world_spec.declared.event.Event.{Event}
 use Rattle.psci_headline.specs.psci_world_spec.declared.said.Record.{Record}
-use Rattle.psci_headline.specs.psci_world_spec.Histories.{controller_values, firmware_values}
-use Rattle.psci_headline.specs.psci_world_spec.Places.{place}
+use Rattle.psci_headline.specs.psci_world_spec.Legal.{controller_values, firmware_values, place}
 use Rattle.psci_headline.proofs.Checking.{Steps, each, if_fails, past_from}
 
 -- At rest -------------------------------------------------------------------------------------

@@ -1,9 +1,9 @@
 -- Runs that several files of worked examples name.
 use Rattle.psci_headline.proofs.Words.{◌++◌, ◌∷◌, [], List, run_from, ℕ}
-use Rattle.psci_headline.specs.psci_abi.declared.format.Format.{Format}
-use Rattle.psci_headline.specs.psci_abi.declared.format.Format.TheVariants.{Extended, Original}
+use Rattle.psci_headline.specs.psci_abi.declared.registers.Format.{Format}
+use Rattle.psci_headline.specs.psci_abi.declared.registers.Format.TheVariants.{Extended, Original}
 use Rattle.psci_headline.specs.psci_board.Board.{BoardValue}
-use Rattle.psci_headline.specs.psci_board.declared.node.Node.{Node}
+use Rattle.psci_headline.specs.psci_board.declared.draft.Node.{Node}
 use Rattle.psci_headline.specs.psci_world_spec.declared.event.Event.{Event}
 use Rattle.psci_headline.specs.psci_world_spec.declared.event.Event.TheVariants.{Deliver, Enter}
 use Rattle.psci_headline.specs.psci_world_spec.declared.event.Event.TheVariants.{Wake}

@@ -2,8 +2,8 @@
 -- cores that are powered down, of what the firmware and the power controller know of each other, of
 -- refusals, of what waits, is yet to be confirmed, is at rest and is told. The files RestRows and
 -- UntoldRows have more of the last two, by the tests of them.
-use Rattle.std.proofs.Common.{◌≡◌, ◌⊎◌, ◌≤◌, ◌<◌, ◌++◌, ℕ, pos, Bool, true, false}
-use Rattle.std.proofs.Common.{List, [], ◌∷◌, None, Some, inl, inr, refl, arith, slice_get, subst}
+use Rattle.std.proofs.Common.{◌++◌, ◌<◌, ◌∷◌, ◌≡◌, ◌≤◌, ◌⊎◌, [], arith, Bool, false, inl, inr}
+use Rattle.std.proofs.Common.{List, None, pos, refl, slice_get, Some, subst, true, ℕ}
 use Rattle.std.proofs.lemmas.Bool.Decides.{nat_tests}
 use Rattle.std.proofs.lemmas.Option.{none-some, same_Some}
 use Rattle.psci_board.specs.Board.{BoardValue}
@@ -11,14 +11,13 @@ use Rattle.psci_ctl_spec.specs.psci_messages.Message.{AckValue, MessageValue}
 use Rattle.psci_ctl_spec.specs.psci_messages.Slots.{OfCore, answers}
 use Rattle.psci_ctl_spec.specs.psci_messages.declared.kind.Kind.TheVariants.{Down, Start}
 use Rattle.psci_ctl_spec.specs.psci_messages.declared.start.Cause.TheVariants as causes
-use Rattle.psci_fw_laws.specs.KnownBelow.{known_below}
-use Rattle.psci_fw_laws.specs.psci_fw_spec.Lives.{start_of_life}
+use Rattle.psci_fw_laws.specs.Messages.{known_below}
+use Rattle.psci_fw_laws.specs.psci_fw_spec.Changes.{start_of_life}
 use Rattle.psci_fw_laws.specs.psci_fw_spec.Phases as phases
 use Rattle.psci_fw_laws.specs.psci_fw_spec.Values.{updated}
 use Rattle.psci_fw_laws.specs.psci_fw_spec.declared.fault.FwFault.TheVariants.{NotRunning}
 use Rattle.psci_fw_laws.specs.psci_fw_spec.declared.hw.Hw.TheVariants.{Off, On, Standby}
-use Rattle.psci_world_spec.specs.Histories.{firmware_values}
-use Rattle.psci_world_spec.specs.Legal.{run_from}
+use Rattle.psci_world_spec.specs.Legal.{firmware_values, run_from}
 use Rattle.psci_world_spec.specs.declared.event.Event.TheVariants.{Deliver, Enter, Reset, Take}
 use Rattle.psci_world_spec.specs.declared.event.Event.TheVariants.{Wake}
 use Rattle.psci_world_spec.specs.declared.place.Place.TheVariants.{Started, Stopped}
@@ -27,16 +26,12 @@ use Rattle.psci_world_spec.proofs.Scripts.{acked, board, call, computing, enters
 use Rattle.psci_world_spec.proofs.Scripts.{limited, nothing, off, on_3, one_core, part, resumes}
 use Rattle.psci_world_spec.proofs.Scripts.{retention, returns, sends, started, stops, system_off}
 use Rattle.psci_world_spec.proofs.Scripts.{system_reset, tall, value, version}
-use Rattle.psci_headline.specs.Agreement.{Agree, AgreeIn}
-use Rattle.psci_headline.specs.Claims.{Claim, claims, live_claims}
-use Rattle.psci_headline.specs.Complete.{IsToldWhole}
-use Rattle.psci_headline.specs.Confirming.{Confirming}
-use Rattle.psci_headline.specs.Drained.{AreAtRest}
-use Rattle.psci_headline.specs.Live.{AreApart, AreAsked, AreClaimed, NoneExecutes}
-use Rattle.psci_headline.specs.Moments.{was_powered_down}
+use Rattle.psci_headline.specs.Laws.{Agree, AgreeIn, AreApart, AreAsked, AreClaimed}
+use Rattle.psci_headline.specs.Laws.{NoneExecutes, NoneRefused}
+use Rattle.psci_headline.specs.Safe.{Claim, claims, live_claims, was_powered_down}
+use Rattle.psci_headline.specs.Complete.{Confirming, IsToldWhole}
+use Rattle.psci_headline.specs.Settling.{AreAtRest, IsTold, Waiting, WasTold}
 use Rattle.psci_headline.specs.PoweredDown.{AreDown}
-use Rattle.psci_headline.specs.Refusals.{NoneRefused}
-use Rattle.psci_headline.specs.Waiting.{IsTold, Waiting, WasTold}
 use Rattle.psci_headline.proofs.Histories.{at, life_2, standby, third_on}
 use Rattle.psci_headline.proofs.Checking.{◌⇒◌, Legal, Steps, past_from}
 

@@ -5,17 +5,18 @@ use Rattle.std.proofs.Common.{◌≡◌, ◌++◌, true, List, [], ◌∷◌, re
 use Rattle.psci_board.specs.Board.{BoardValue}
 use Rattle.psci_board.proofs.Tables.{Gives, Row}
 use Rattle.psci_ctl_spec.specs.psci_messages.declared.kind.Kind.TheVariants.{Down}
-use Rattle.psci_headline.specs.psci_world_spec.declared.event.Event.TheVariants.{Enter, Reset}
-use Rattle.psci_headline.specs.psci_world_spec.declared.event.Event.TheVariants.{Deliver, Take}
-use Rattle.psci_headline.proofs.world_spec.Scripts.{acked, board, call, off, retention, system_off}
-use Rattle.psci_headline.proofs.world_spec.Scripts.{system_reset, tall, enters, one_core, version}
+use Rattle.psci_headline.specs.psci_world_spec.declared.event.Event.TheVariants.{Deliver, Enter}
+use Rattle.psci_headline.specs.psci_world_spec.declared.event.Event.TheVariants.{Reset, Take}
+use Rattle.psci_headline.proofs.world_spec.Scripts.{acked, board, call, enters, off, one_core}
+use Rattle.psci_headline.proofs.world_spec.Scripts.{retention, system_off, system_reset, tall}
+use Rattle.psci_headline.proofs.world_spec.Scripts.{version}
 use Rattle.psci_headline.proofs.Histories.{Case, cases, standby, extended, on_in_group, third_on}
 use Rattle.psci_headline.proofs.Checking.{◌⇒◌, Breaks, Holds, Legal, Steps, each}
-use Rattle.psci_headline.proofs.Failing.{Agree, Clause, Entered, Own, System, unrest_after, Saying}
-use Rattle.psci_headline.proofs.Failing.{Events, Few, Most, Reached, Rest, unsettled_after}
+use Rattle.psci_headline.proofs.Failing.{Agree, Clause, Entered, Events, Few, Most, Own, Reached}
+use Rattle.psci_headline.proofs.Failing.{Rest, Saying, System, unrest_after, unsettled_after}
 use Rattle.psci_headline.specs.psci_world_spec.declared.event.Event.{Event}
 use Rattle.psci_headline.specs.psci_world_spec.declared.said.Record.{Record}
-use Rattle.psci_headline.specs.Drained.{IsSettled}
+use Rattle.psci_headline.specs.Settling.{IsSettled}
 use Rattle.psci_headline.proofs.world_spec.Scripts as scripts
 
 rest_worlds : Gives unrest_after

@@ -1,38 +1,162 @@
 -- What is so after a message of this life was delivered and its acknowledgement taken, and so
 -- after what is outstanding for a core was served.
+use Rattle.std.specs.Prelude.{get_or}
 use Rattle.std.proofs.Common.{option_and_then}
-use Rattle.psci_headline.proofs.Words.{◌+◌, ◌==◌, ◌∙◌, ◌∷◌, ◌≡◌, ack_by, Acked, Acknowledge}
-use Rattle.psci_headline.proofs.Words.{AckValue, and_from, answers, ap, AreOutstanding, arith}
-use Rattle.psci_headline.proofs.Words.{BoardValue, Bool, changed, cond, cond-false, cond-true}
-use Rattle.psci_headline.proofs.Words.{controller_values, Deliver, eq-eqb, false, firmware_values}
-use Rattle.psci_headline.proofs.Words.{index_of, indexed, is_done, is_system, IsLegalPast, Kind}
-use Rattle.psci_headline.proofs.Words.{length, List, message_effect, MessageValue, nat_tests}
-use Rattle.psci_headline.proofs.Words.{ne_eqb, None, OfCore, Option, place_of_effect, Record, refl}
-use Rattle.psci_headline.proofs.Words.{served, serving, slot_of, Some, step, subst, sym, Take, true}
-use Rattle.psci_headline.proofs.Words.{unwrap_or, Values, values_more, with_acknowledgement, ℕ}
-use Rattle.psci_headline.specs.psci_fw_spec.Taking.{taken_by}
+use Rattle.std.proofs.lemmas.List.{length-append, reverse-append}
+use Rattle.std.proofs.lemmas.List.Elements.{filter-append}
+use Rattle.std.proofs.lemmas.Option.{slice_get-get_or}
+use Rattle.psci_ctl_spec.specs.Replies as controlling
+use Rattle.psci_ctl_spec.specs.Replies.{after, delivery_of, effect_of, reply}
+use Rattle.psci_ctl_spec.specs.Values as controller
 use Rattle.psci_ctl_spec.specs.psci_messages.declared.taken.Taken.TheVariants.{Used}
 use Rattle.psci_world_spec.specs.Legal.{take}
-use Rattle.psci_ctl_spec.specs.Changes.{after}
-use Rattle.psci_ctl_spec.specs.Effects.{effect_of}
-use Rattle.psci_ctl_spec.specs.Replies.{delivery_of, reply}
+use Rattle.psci_headline.specs.Settling as drained
+use Rattle.psci_headline.specs.Settling.{has_name}
 use Rattle.psci_headline.specs.psci_fw_spec.Answer.{answer}
+use Rattle.psci_headline.specs.psci_fw_spec.Values.{taken_by}
+use Rattle.psci_headline.specs.psci_world_spec.Legal.{acks, controller_history, firmware_history}
+use Rattle.psci_headline.specs.psci_world_spec.Legal.{legal, place, sent}
 use Rattle.psci_headline.specs.psci_world_spec.declared.said.Said.TheVariants.{Taken as Took}
-use Rattle.psci_headline.specs.psci_world_spec.Histories.{acks, controller_history}
-use Rattle.psci_headline.specs.psci_world_spec.Histories.{firmware_history, sent}
-use Rattle.psci_headline.specs.psci_world_spec.Legal.{legal}
-use Rattle.psci_headline.specs.psci_world_spec.Places.{place}
 use Rattle.psci_headline.proofs.Agreed.{RunLaws}
-use Rattle.psci_headline.proofs.Counting.{AreAdded, delivered_more, one_added}
-use Rattle.psci_headline.proofs.Finding.{numbered_new, HasNumber, HaveName, finds}
 use Rattle.psci_headline.proofs.Nexts.{acks_message}
-use Rattle.psci_headline.proofs.Slots.{core_slot}
-use Rattle.psci_headline.proofs.Taking.{HasName}
+use Rattle.psci_headline.proofs.Checking.{core_slot}
+use Rattle.psci_headline.proofs.Pursuing.{HasName, same_kind}
 use Rattle.psci_headline.proofs.Telling.{own_kind}
-use Rattle.psci_ctl_spec.specs.Changes as controlling
-use Rattle.psci_ctl_spec.specs.Exchange as controller
-use Rattle.psci_ctl_spec.specs.Values as controlled
-use Rattle.psci_headline.specs.Drained as drained
+use Rattle.psci_headline.proofs.Words.{◌++◌, ◌+◌, ◌-◌, ◌<◌, ◌==◌, ◌∙◌, ◌∷◌, ◌≡◌, [], ack_by}
+use Rattle.psci_headline.proofs.Words.{Acked, Acknowledge, AckValue, and_from, and_parts}
+use Rattle.psci_headline.proofs.Words.{answers, ap, AreOutstanding, arith, BoardValue, Bool}
+use Rattle.psci_headline.proofs.Words.{changed, cond, cond-false, cond-true, controller_values}
+use Rattle.psci_headline.proofs.Words.{Deliver, deliveries, eq-eqb, eqb-true, false}
+use Rattle.psci_headline.proofs.Words.{firmware_values, get_or-reverse, get_or_from_slice_get}
+use Rattle.psci_headline.proofs.Words.{index_of, indexed, is_done, is_settling, is_system}
+use Rattle.psci_headline.proofs.Words.{IsLegalPast, Kind, length, length-reverse, List, list_all}
+use Rattle.psci_headline.proofs.Words.{message_effect, MessageValue, nat_tests, ne_eqb, None}
+use Rattle.psci_headline.proofs.Words.{OfCore, Option, place_of_effect, Record, refl, reverse}
+use Rattle.psci_headline.proofs.Words.{served, serving, slice_get, slice_get_within, slot_of}
+use Rattle.psci_headline.proofs.Words.{Some, step, subst, suc, sym, Take, true, unwrap_or}
+use Rattle.psci_headline.proofs.Words.{Values, values_more, with_acknowledgement, zero, ℕ}
+
+-- How often messages are delivered, along the records, and which records are added ----------------
+
+-- deliveries of more records
+pub deliveries_more : (k : ℕ) (added past : List Record)
+    → deliveries k (added ++ past) ≡ deliveries k added + deliveries k past
+deliveries_more k added past = grind (arith, nat_tests, filter-append, length-append)
+
+-- a message is delivered once more by its own delivery alone
+pub delivered_more : (j k : ℕ) (r : Record) (past : List Record) → r.event ≡ Deliver k
+    → deliveries j (r ∷ past) ≡ cond (j == k) 1 0 + deliveries j past
+delivered_more j k r past e = grind (arith, nat_tests)
+
+-- Records that were added, each an entry, a delivery or a taken acknowledgement.
+pub record AreAdded (before past : List Record) : Type 0 where
+  pub records : List Record
+  pub is : past ≡ records ++ before
+  pub events : list_all (λ r. is_settling r.event) records ≡ true
+
+pub none_added : (past : List Record) → AreAdded past past
+none_added past = record { records = []; is = refl; events = refl }
+
+pub one_added : (before past : List Record) (r : Record) → is_settling r.event ≡ true
+    → AreAdded before past → AreAdded before (r ∷ past)
+one_added before past r e are = record {
+  records = r ∷ are.records;
+  is = ap (λ (rs : List Record). r ∷ rs) are.is;
+  events = and_from _ _ e are.events;
+}
+
+-- The numbers of messages: the newest one, older ones, and how one is found by its name -----------
+
+-- Numbers --------------------------------------------------------------------------------------
+
+get_front : {A : Type 0} → (xs ys : List A) (k : ℕ) (y : A) → slice_get xs k ≡ Some y
+    → slice_get (xs ++ ys) k ≡ Some y
+get_front [] ys k y e = absurd (cc)
+get_front (x ∷ xs) ys zero y e = e
+get_front (x ∷ xs) ys (suc k) y e = get_front xs ys k y e
+
+get_last : {A : Type 0} → (xs : List A) (x : A) → slice_get (xs ++ x ∷ []) (length xs) ≡ Some x
+get_last [] x = refl
+get_last (y ∷ ys) x = get_last ys x
+
+-- the newest item has the number of items before it
+pub numbered_new : {A : Type 0} → (x : A) (xs : List A) → indexed (x ∷ xs) (length xs) ≡ Some x
+numbered_new x xs =
+    ap (λ ys. slice_get ys (length xs)) (reverse-append (x ∷ []) xs)
+    ∙ ap (λ k. slice_get (reverse xs ++ x ∷ []) k) (sym (length-reverse xs))
+    ∙ get_last (reverse xs) x
+
+-- an older one keeps its number
+pub numbered_old : {A : Type 0} → (x : A) (xs : List A) (k : ℕ) (y : A)
+    → indexed xs k ≡ Some y → indexed (x ∷ xs) k ≡ Some y
+numbered_old x xs k y e =
+    ap (λ ys. slice_get ys k) (reverse-append (x ∷ []) xs)
+    ∙ get_front (reverse xs) (x ∷ []) k y e
+
+-- where an item of some number stands in the list
+pub indexed_at : {A : Type 0} → (xs : List A) (k : ℕ) (y : A) → indexed xs k ≡ Some y
+    → (k < length xs) × (slice_get xs (length xs - 1 - k) ≡ Some y)
+indexed_at xs k y e =
+    let within : k < length xs = grind (arith, nat_tests, slice_get_within, length-reverse) in
+    let j : ℕ = length xs - 1 - k in
+    let inside : j < length xs = omega (arith, within) in
+    let here : get_or xs j y ≡ y =
+    sym (get_or-reverse xs k y within) ∙ get_or_from_slice_get (reverse xs) k y y e in
+    (within, slice_get-get_or xs j y inside ∙ ap Some here)
+
+-- Names ----------------------------------------------------------------------------------------
+
+-- Two messages with one name.
+pub record HaveName (m n : MessageValue) : Type 0 where
+  pub kind : m.kind ≡ n.kind
+  pub core : m.core.number ≡ n.core.number
+  pub life : m.life ≡ n.life
+  pub number : m.number ≡ n.number
+
+pub name_of : (m n : MessageValue) → has_name m n ≡ true → HaveName m n
+name_of m n e = grind (arith, nat_tests, and_parts, same_kind, eqb-true)
+
+-- a message has its own name
+pub own_name : (m : MessageValue) → has_name m m ≡ true
+own_name m = grind (arith, nat_tests, and_from, own_kind, eq-eqb)
+
+-- The number of a message, as it is found by its name.
+pub record HasNumber (m : MessageValue) (sent : List MessageValue) : Type 0 where
+  pub number : ℕ
+  pub found : index_of m sent ≡ Some number
+  pub message : MessageValue
+  pub at : indexed sent number ≡ Some message
+  pub name : HaveName m message
+
+-- a message that was sent is found
+pub finds : (m : MessageValue) (sent : List MessageValue) (k : ℕ) → slice_get sent k ≡ Some m
+    → HasNumber m sent
+finds m [] k e = absurd (cc)
+finds m (n ∷ ns) k e = by_test (λ j. finds m ns j) (has_name m n) refl k e
+  where
+    by_test : ((j : ℕ) → slice_get ns j ≡ Some m → HasNumber m ns) → (t : Bool)
+        → has_name m n ≡ t → (j : ℕ) → slice_get (n ∷ ns) j ≡ Some m → HasNumber m (n ∷ ns)
+    by_test older true f j at = record {
+      number = length ns;
+      found = cond-true (has_name m n) _ _ f;
+      message = n;
+      at = numbered_new n ns;
+      name = name_of m n f;
+    }
+    by_test older false f zero at =
+        let same : n ≡ m = cc in
+        let no : true ≡ false = sym (own_name m) ∙ ap (has_name m) (sym same) ∙ f in absurd (cc)
+    by_test older false f (suc j) at =
+        let rest = older j at in
+        record {
+          number = rest.number;
+          found = cond-false (has_name m n) _ _ f ∙ rest.found;
+          message = rest.message;
+          at = numbered_old n ns rest.number rest.message rest.at;
+          name = rest.name;
+        }
+
+-- Serving -----------------------------------------------------------------------------------------
 
 -- A delivery -----------------------------------------------------------------------------------
 
@@ -62,7 +186,7 @@ delivered_so : (b : BoardValue) (past : List Record) (k : ℕ) (m : MessageValue
     → AreDelivered b past k m
 unfolding controller_history firmware_history sent acks place after effect_of
 delivered_so b past k m laws at present =
-    let w : controlled.Values = controller_values b past in
+    let w : controller.Values = controller_values b past in
     let h : List controller.CtlExchange = controller_history b past in
     let a : AckValue = ack_to b past m in
     let said : legal b past (Deliver k) ≡ Acked (length (acks past)) a =

@@ -1,26 +1,26 @@
 -- Where nothing is outstanding firmware and power controller agree on every domain; and unless the
 -- world halts it settles.
 use Rattle.std.proofs.lemmas.List.Sums.{AllPass-from_list_all}
-use Rattle.psci_headline.proofs.Words.{◌++◌, ◌+◌, ◌<◌, ◌∙◌, ◌≡◌, ap, AreAtRest, arith, BoardValue}
-use Rattle.psci_headline.proofs.Words.{cases_lt, controller_values, cores, deliveries, false}
-use Rattle.psci_headline.proofs.Words.{firmware_values, HasNode, height, inl, inr, is_halting}
-use Rattle.psci_headline.proofs.Words.{is_settling, IsLegalPast, IsSettled, known_below, List}
-use Rattle.psci_headline.proofs.Words.{MessageValue, nat_tests, Node, None, none-some, OfSystem}
-use Rattle.psci_headline.proofs.Words.{Option, Reached, Record, refl, same_Some, sent, Some, subst}
-use Rattle.psci_headline.proofs.Words.{suc, sym, Values, ℕ}
-use Rattle.psci_headline.specs.psci_fw_laws.Granted.{AreGranted}
+use Rattle.psci_headline.proofs.Words.{◌++◌, ◌+◌, ◌<◌, ◌∙◌, ◌≡◌, ap, AreAtRest, arith}
+use Rattle.psci_headline.proofs.Words.{BoardValue, cases_lt, controller_values, cores}
+use Rattle.psci_headline.proofs.Words.{deliveries, false, firmware_values, HasNode, height, inl}
+use Rattle.psci_headline.proofs.Words.{inr, is_halting, is_settling, IsLegalPast, IsSettled}
+use Rattle.psci_headline.proofs.Words.{known_below, List, MessageValue, nat_tests, Node, None}
+use Rattle.psci_headline.proofs.Words.{none-some, OfSystem, Option, Reached, Record, refl}
+use Rattle.psci_headline.proofs.Words.{same_Some, sent, Some, subst, suc, sym, Values, ℕ}
+use Rattle.psci_headline.specs.psci_fw_laws.Messages.{AreGranted}
 use Rattle.psci_headline.specs.Settling.{begun, settled}
-use Rattle.psci_headline.proofs.fw_laws.Sums.{known_same}
-use Rattle.psci_headline.proofs.Claimed.{claim_deep}
-use Rattle.psci_headline.proofs.Going.{IsGoing, known_now, none_system, waits_now, goes_on, out_now}
-use Rattle.psci_headline.proofs.Rounds.{DeepAt, deep_or_out, out_at}
-use Rattle.psci_headline.proofs.Standing.{SettleLaws}
-use Rattle.psci_headline.proofs.Agreeing.{found_own}
+use Rattle.psci_headline.proofs.fw_laws.Refusing.{known_same}
+use Rattle.psci_headline.proofs.Applying.{claim_deep}
+use Rattle.psci_headline.proofs.Starts.{goes_on, has_begun, HasBegun, IsGoing, known_now}
+use Rattle.psci_headline.proofs.Starts.{none_system, out_now, waits_now}
+use Rattle.psci_headline.proofs.Rounds.{comes_to_rest, deep_or_out, DeepAt, HasRest, IsRound}
+use Rattle.psci_headline.proofs.Rounds.{out_at}
+use Rattle.psci_headline.proofs.Nexts.{SettleLaws}
+use Rattle.psci_headline.proofs.Controls.{found_own}
 use Rattle.psci_headline.proofs.Beginning.{IsUnderWay}
-use Rattle.psci_headline.proofs.Bound.{HasRest, IsRound, comes_to_rest}
-use Rattle.psci_headline.proofs.Counting.{none_added, deliveries_more}
-use Rattle.psci_headline.proofs.Starts.{HasBegun, has_begun}
-use Rattle.psci_headline.proofs.Whole.{LifeGoesOn, going_life}
+use Rattle.psci_headline.proofs.Serving.{none_added, deliveries_more}
+use Rattle.psci_headline.proofs.Confirmed.{LifeGoesOn, going_life}
 use Rattle.psci_ctl_spec.specs.Values as controlled
 
 -- At rest --------------------------------------------------------------------------------------

@@ -8,7 +8,7 @@ use Rattle.psci_headline.proofs.Words.{Part, refl, same_Some, slice_get, slice_g
 use Rattle.psci_headline.proofs.Words.{starts_below, subst, suc, sym, take, true, zero, ℕ}
 use Rattle.psci_ctl_spec.specs.Values.{Values}
 use Rattle.psci_ctl_spec.specs.psci_messages.declared.kind.Kind.TheVariants.{Start}
-use Rattle.psci_headline.proofs.Starting.{same_sum}
+use Rattle.psci_headline.proofs.Pursuing.{same_sum}
 
 pub own_kind : (k : Kind) → is_kind k k ≡ true
 own_kind k = grind (arith, nat_tests)

@@ -1,22 +1,62 @@
 -- What NODE_HW_STATE answers with HW_OFF or HW_STANDBY: the domain was so deep at some moment.
-use Rattle.psci_headline.proofs.Words.{◌<◌, ◌==◌, ◌∙◌, ◌∷◌, ◌≡◌, ◌≤◌, [], and_from, and_parts, ap}
-use Rattle.psci_headline.proofs.Words.{arith, BoardValue, Bool, Call, cases_Bool, Code, cond}
-use Rattle.psci_headline.proofs.Words.{controller_values, Event, firmware_values, Fw, HasNode, Hw}
-use Rattle.psci_headline.proofs.Words.{hw_at, int_eq, is_in_state, IsLegal, IsLegalPast, List}
-use Rattle.psci_headline.proofs.Words.{lt-ltb, nat_tests, Node, node_hw, None, not, or_left}
-use Rattle.psci_headline.proofs.Words.{or_right, pos, Record, Request, request_of, Said, Some}
-use Rattle.psci_headline.proofs.Words.{StatesWereReal, sym, true, Values, ℕ}
-use Rattle.psci_headline.specs.Hardware.{said_hw, is_hw, was_in_state}
-use Rattle.psci_fw_laws.specs.psci_fw_spec.NodeHwState.{hw_code, hw_state_of}
 use Rattle.psci_board.specs.Board.{node_of}
-use Rattle.psci_fw_laws.specs.psci_fw_spec.declared.hw.Hw.TheVariants.{Off, Standby}
-use Rattle.psci_world_spec.specs.Histories.{firmware_history}
-use Rattle.psci_headline.specs.ToldHw.{WasSoDeep, hw_asked_of, is_off_depth, is_so_deep}
-use Rattle.psci_headline.specs.ToldHw.{is_standby_depth, told_hw, was_so_deep}
-use Rattle.psci_headline.proofs.ToldOff.{named_node, if_so, no_node}
-use Rattle.psci_headline.proofs.Returned.{Extended, IsReturned, returned}
+use Rattle.psci_world_spec.specs.Legal.{firmware_history}
 use Rattle.psci_world_spec.specs.psci_abi.declared.request.Request.TheVariants as requests
+use Rattle.psci_fw_laws.specs.psci_fw_spec.NodeHwState.{hw_code, hw_state_of}
+use Rattle.psci_fw_laws.specs.psci_fw_spec.declared.hw.Hw.TheVariants.{Off, Standby}
 use Rattle.psci_fw_laws.specs.psci_fw_spec.declared.outcome.Act.TheVariants as acts
+use Rattle.psci_headline.specs.Safe.{is_hw, said_hw, was_in_state}
+use Rattle.psci_headline.specs.Laws.{hw_asked_of, is_off_depth, is_so_deep, is_standby_depth}
+use Rattle.psci_headline.specs.Laws.{told_hw, was_so_deep, WasSoDeep}
+use Rattle.psci_headline.proofs.Entering.{Extended, IsReturned, returned}
+use Rattle.psci_headline.proofs.ToldOff.{if_so, named_node, no_node}
+use Rattle.psci_headline.proofs.Words.{◌++◌, ◌<◌, ◌==◌, ◌∙◌, ◌∷◌, ◌≡◌, ◌≤◌, [], and_from}
+use Rattle.psci_headline.proofs.Words.{and_parts, ap, arith, BoardValue, Bool, Call, cases_Bool}
+use Rattle.psci_headline.proofs.Words.{Code, cond, controller_values, eq-eqb, Event}
+use Rattle.psci_headline.proofs.Words.{firmware_values, Fw, HasNode, Hw, hw_at, int_eq}
+use Rattle.psci_headline.proofs.Words.{is_in_state, IsLegal, IsLegalPast, List, lt-ltb}
+use Rattle.psci_headline.proofs.Words.{nat_tests, Node, node_hw, None, not, or_left, or_right}
+use Rattle.psci_headline.proofs.Words.{pos, Record, Request, request_of, Said, Some}
+use Rattle.psci_headline.proofs.Words.{starts_below, StatesWereReal, sym, true, Values, ℕ}
+
+-- Domains that were in a state at some moment -----------------------------------------------------
+
+-- a domain that is so deep now, after so many starts below, in this life
+in_state : (b : BoardValue) (life sum depth : ℕ) (past : List Record) (n : Node)
+    → (controller_values b past).life ≡ Some life
+    → starts_below b (controller_values b past).starts n ≡ sum
+    → (controller_values b past).depth n.level n.place ≡ depth
+    → is_in_state b life sum (hw_at depth) past n ≡ true
+in_state b life sum depth past n now count deep = grind (arith, nat_tests, and_from, eq-eqb)
+
+by_now : (b : BoardValue) (life sum : ℕ) (h : Hw) (past : List Record) (n : Node)
+    → is_in_state b life sum h past n ≡ true → was_in_state b life sum h past n ≡ true
+unfolding was_in_state
+by_now b life sum h [] n e = e
+by_now b life sum h (r ∷ past) n e = or_left _ _ e
+
+pub seen_now : (b : BoardValue) (life sum depth : ℕ) (past : List Record) (n : Node)
+    → (controller_values b past).life ≡ Some life
+    → starts_below b (controller_values b past).starts n ≡ sum
+    → (controller_values b past).depth n.level n.place ≡ depth
+    → was_in_state b life sum (hw_at depth) past n ≡ true
+seen_now b life sum depth past n now count deep = grind (arith, nat_tests, by_now, in_state)
+
+-- what was once so has been so ever since
+pub seen_later : (b : BoardValue) (life sum : ℕ) (h : Hw) (r : Record) (past : List Record)
+    (n : Node) → was_in_state b life sum h past n ≡ true
+    → was_in_state b life sum h (r ∷ past) n ≡ true
+unfolding was_in_state
+seen_later b life sum h r past n e = or_right _ _ e
+
+pub seen_since : (b : BoardValue) (life sum : ℕ) (h : Hw) (since past : List Record) (n : Node)
+    → was_in_state b life sum h past n ≡ true
+    → was_in_state b life sum h (since ++ past) n ≡ true
+seen_since b life sum h [] past n e = e
+seen_since b life sum h (r ∷ since) past n e =
+    seen_later b life sum h r (since ++ past) n (seen_since b life sum h since past n e)
+
+-- Told hw -----------------------------------------------------------------------------------------
 
 -- How deep ------------------------------------------------------------------------------------
 

@@ -6,22 +6,21 @@ use Rattle.psci_headline.proofs.Words.{and_from, and_parts, ap, arith, below, Bo
 use Rattle.psci_headline.proofs.Words.{Call, cases_Bool, cases_lt, Code, cond, cond-true, cores}
 use Rattle.psci_headline.proofs.Words.{eq-eqb, eqb-true, Event, executes_outside, false, filter}
 use Rattle.psci_headline.proofs.Words.{firmware_values, Fw, has_node, HasNode, height, int_eq}
-use Rattle.psci_headline.proofs.Words.{IsLegal, le-leb, leb-true, List, list_all, list_any, lt-ltb}
-use Rattle.psci_headline.proofs.Words.{nat_tests, Node, None, not, Off, OffIsDown, Option, or_cases}
-use Rattle.psci_headline.proofs.Words.{or_left, or_parts, or_right, PathLaws, place, pos}
-use Rattle.psci_headline.proofs.Words.{range_with_len, Record, refl, Request, request_of, Said}
-use Rattle.psci_headline.proofs.Words.{same_Some, Some, Status, subst, suc, sym, true, Values}
-use Rattle.psci_headline.proofs.Words.{was_powered_down, zero, ℕ}
+use Rattle.psci_headline.proofs.Words.{IsLegal, le-leb, leb-true, List, list_all, list_any}
+use Rattle.psci_headline.proofs.Words.{lt-ltb, nat_tests, Node, None, not, Off, OffIsDown}
+use Rattle.psci_headline.proofs.Words.{Option, or_cases, or_left, or_parts, or_right, PathLaws}
+use Rattle.psci_headline.proofs.Words.{place, pos, range_with_len, Record, refl, Request}
+use Rattle.psci_headline.proofs.Words.{request_of, Said, same_Some, Some, Status, subst, suc}
+use Rattle.psci_headline.proofs.Words.{sym, true, Values, was_powered_down, zero, ℕ}
 use Rattle.psci_board.specs.Board.{node_of, size_below, up}
 use Rattle.psci_fw_laws.specs.psci_fw_spec.declared.status.Status.TheVariants.{On, Pending}
-use Rattle.psci_fw_laws.specs.psci_fw_spec.AffinityInfo.{affinity_of, is_on, is_pending_status}
-use Rattle.psci_fw_laws.specs.psci_fw_spec.AffinityInfo.{node_status, status_code, status_over}
-use Rattle.psci_world_spec.specs.Histories.{firmware_history}
-use Rattle.psci_headline.specs.ToldOff.{asked_of, told_off}
-use Rattle.psci_headline.proofs.Returned.{Extended, IsReturned, returned}
-use Rattle.psci_headline.proofs.Slept.{report}
-use Rattle.psci_headline.proofs.Tested.{not_running, still}
-use Rattle.psci_headline.proofs.Ranges.{all_in, each_in}
+use Rattle.psci_fw_laws.specs.psci_fw_spec.PowerCalls.{affinity_of, is_on, is_pending_status}
+use Rattle.psci_fw_laws.specs.psci_fw_spec.PowerCalls.{node_status, status_code, status_over}
+use Rattle.psci_world_spec.specs.Legal.{firmware_history}
+use Rattle.psci_headline.specs.Laws.{asked_of, told_off}
+use Rattle.psci_headline.proofs.Entering.{Extended, IsReturned, returned}
+use Rattle.psci_headline.proofs.Nexts.{report}
+use Rattle.psci_headline.proofs.Tested.{all_in, each_in, not_running, still}
 use Rattle.psci_world_spec.specs.psci_abi.declared.request.Request.TheVariants as requests
 use Rattle.psci_fw_laws.specs.psci_fw_spec.declared.outcome.Act.TheVariants as acts
 

@@ -1,9 +1,9 @@
 -- Worked examples: what a record says of the hardware state of a domain, and how deep it was; what
 -- it says is OFF, and domains of which all cores are off, or one is not; by each axis.
-use Rattle.std.proofs.Common.{◌++◌, ◌+◌, ℕ, Bool, true, false, List, [], ◌∷◌, Option, None, Some}
-use Rattle.std.proofs.Common.{refl, ◌≡◌, arith}
+use Rattle.std.proofs.Common.{◌++◌, ◌+◌, ◌∷◌, ◌≡◌, [], arith, Bool, false, List, None, Option}
+use Rattle.std.proofs.Common.{refl, Some, true, ℕ}
 use Rattle.psci_board.specs.Board.{BoardValue}
-use Rattle.psci_board.specs.declared.node.Node.{Node}
+use Rattle.psci_board.specs.declared.draft.Node.{Node}
 use Rattle.psci_board.proofs.Tables.{◌⇒◌, Gives, Row}
 use Rattle.psci_ctl_spec.specs.psci_messages.declared.kind.Kind.TheVariants.{Down}
 use Rattle.psci_fw_laws.specs.psci_fw_spec.NodeHwState.{hw_code}
@@ -11,18 +11,16 @@ use Rattle.psci_world_spec.specs.declared.event.Event.{Event}
 use Rattle.psci_world_spec.specs.declared.event.Event.TheVariants.{Deliver, Enter, Take, Wake}
 use Rattle.psci_world_spec.specs.declared.said.Record.{Record}
 use Rattle.psci_world_spec.specs.declared.said.Said.{Said}
-use Rattle.psci_world_spec.specs.Histories.{firmware_values}
-use Rattle.psci_world_spec.specs.Legal.{run_from}
-use Rattle.psci_world_spec.proofs.Scripts.{acked, board, call, computing, nothing, off, retention}
-use Rattle.psci_world_spec.proofs.Scripts.{status_3, stops, system_off, system_reset, tall, value}
-use Rattle.psci_world_spec.proofs.Scripts.{on_3, version}
-use Rattle.psci_headline.specs.Hardware.{known_starts, said_hw}
-use Rattle.psci_headline.specs.ToldHw.{is_off_depth, is_standby_depth, told_hw, was_so_deep}
+use Rattle.psci_world_spec.specs.Legal.{firmware_values, run_from}
+use Rattle.psci_world_spec.proofs.Scripts.{acked, board, call, computing, nothing, off, on_3}
+use Rattle.psci_world_spec.proofs.Scripts.{retention, status_3, stops, system_off, system_reset}
+use Rattle.psci_world_spec.proofs.Scripts.{tall, value, version}
+use Rattle.psci_headline.specs.Safe.{known_starts, said_hw, was_powered_down}
+use Rattle.psci_headline.specs.Laws.{AllOff, is_off_depth, is_standby_depth, told_hw, told_off}
+use Rattle.psci_headline.specs.Laws.{was_so_deep}
 use Rattle.psci_headline.proofs.Checking.{each}
-use Rattle.psci_headline.proofs.Histories.{Case, cases, after, at, extended, life_2, on_in_group}
-use Rattle.psci_headline.proofs.Histories.{os_mode, third_on, suspend}
-use Rattle.psci_headline.specs.Moments.{was_powered_down}
-use Rattle.psci_headline.specs.ToldOff.{AllOff, told_off}
+use Rattle.psci_headline.proofs.Histories.{after, at, Case, cases, extended, life_2, on_in_group}
+use Rattle.psci_headline.proofs.Histories.{os_mode, suspend, third_on}
 use Rattle.psci_headline.proofs.ToldOff.{is_all_off}
 
 -- a core asks for the hardware state of a word at a level
@@ -197,13 +195,13 @@ off_told_by (b, event, said) = told_off b event said
 told_off_by : Gives off_told_by
     -- a core
     ((board, status_3, value 1) ⇒ Some (at 0 3)
-    -- a group on three levels
+    -- a group on three levels, and the system above it
     ∷ (tall, status_of 0 0x10000 2, value 1) ⇒ Some (at 2 1)
+    ∷ (tall, status_of 0 0x10000 3, value 1) ⇒ Some (at 3 0)
     -- by the word of 32 bits
     ∷ (board, call 3 0x84000004 0 0 0, value 1) ⇒ Some (at 0 0)
-    -- not where the answer is ON
+    -- not where the answer is ON, or ON_PENDING
     ∷ (board, status_3, value 0) ⇒ None
-    -- or ON_PENDING
     ∷ (board, status_3, value 2) ⇒ None
     -- not where the word names nothing
     ∷ (board, status_of 0 0x200 0, value 1) ⇒ None

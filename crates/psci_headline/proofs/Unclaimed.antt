@@ -1,9 +1,9 @@
 -- Cores without a live claim.
 use Rattle.psci_headline.proofs.Words.{◌<◌, ◌≡◌, ap, AreLive, arith, BoardValue, cores, Down}
-use Rattle.psci_headline.proofs.Words.{IsClaimOn, IsLivePart, List, MessageValue, nat_tests, Part}
-use Rattle.psci_headline.proofs.Words.{Phase, slice_get, Some, sym, up, ℕ}
+use Rattle.psci_headline.proofs.Words.{IsClaimOn, IsLivePart, List, MessageValue, nat_tests}
+use Rattle.psci_headline.proofs.Words.{Part, Phase, slice_get, Some, sym, up, ℕ}
 use Rattle.psci_headline.specs.psci_fw_spec.Phases.{Running}
-use Rattle.psci_headline.proofs.fw_laws.Parts.{part_from}
+use Rattle.psci_headline.proofs.fw_laws.Claiming.{part_from}
 
 -- no part of a Down of this core is live
 abbrev pub NoneLive : BoardValue → ℕ → (ℕ → ℕ) → List MessageValue → ℕ → Type 0

@@ -6,8 +6,7 @@ use Rattle.psci_headline.specs.psci_board.Board.{BoardValue, cores, height, node
 use Rattle.psci_headline.specs.psci_fw_spec.NodeHwState.{hw_at, node_hw}
 use Rattle.psci_headline.specs.psci_world_spec.declared.event.Event.{Event}
 use Rattle.psci_headline.specs.psci_world_spec.declared.said.Record.{Record}
-use Rattle.psci_headline.specs.psci_world_spec.Histories.{controller_values, firmware_values}
-use Rattle.psci_headline.specs.psci_world_spec.Places.{place}
+use Rattle.psci_headline.specs.psci_world_spec.Legal.{controller_values, firmware_values, place}
 use Rattle.psci_headline.specs.Settling.{begun, is_waiting, round, rounds, settled}
 use Rattle.psci_headline.proofs.Histories.{after, at}
 use Rattle.psci_headline.proofs.Checking.{Steps, each, if_fails, past_from}

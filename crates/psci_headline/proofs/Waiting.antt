@@ -1,12 +1,12 @@
 -- Openings that wait for their core, and those that an entry has taken up.
-use Rattle.psci_headline.proofs.Words.{◌&&◌, ◌<◌, ◌==◌, ◌∙◌, ◌∷◌, ◌≡◌, ◌≤◌, [], and_from, and_parts}
-use Rattle.psci_headline.proofs.Words.{ap, arith, BoardValue, cond_both, EnteredAt, eq-eqb}
-use Rattle.psci_headline.proofs.Words.{eqb-true, Fits, List, Made, nat_tests, None, OfCall, OfLife}
-use Rattle.psci_headline.proofs.Words.{Opening, Option, refl, slice_get, Some, subst, suc, sym}
-use Rattle.psci_headline.proofs.Words.{TakenUp, updated, updated_at, zero, ℕ}
-use Rattle.psci_headline.specs.Openings.{newest, Maker}
-use Rattle.psci_fw_laws.specs.psci_fw_spec.Lives.{first_opening}
-use Rattle.psci_headline.proofs.Filters.{head_kept, is_kept}
+use Rattle.psci_headline.proofs.Words.{◌&&◌, ◌<◌, ◌==◌, ◌∙◌, ◌∷◌, ◌≡◌, ◌≤◌, [], and_from}
+use Rattle.psci_headline.proofs.Words.{and_parts, ap, arith, BoardValue, cond_both, EnteredAt}
+use Rattle.psci_headline.proofs.Words.{eq-eqb, eqb-true, Fits, List, Made, nat_tests, None}
+use Rattle.psci_headline.proofs.Words.{OfCall, OfLife, Opening, Option, refl, slice_get, Some}
+use Rattle.psci_headline.proofs.Words.{subst, suc, sym, TakenUp, updated, updated_at, zero, ℕ}
+use Rattle.psci_headline.specs.Safe.{newest, Maker}
+use Rattle.psci_fw_laws.specs.psci_fw_spec.Changes.{first_opening}
+use Rattle.psci_headline.proofs.LiveOnes.{head_kept, is_kept}
 
 -- The newest opening ---------------------------------------------------------------------------
 

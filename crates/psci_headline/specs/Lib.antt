@@ -1,21 +1,9 @@
-pub mod Acknowledged
-pub mod Agreement
-pub mod Claims
-pub mod Complete
-pub mod Confirming
-pub mod Drained
-pub mod Hardware
-pub mod Live
-pub mod Moments
-pub mod Openings
-pub mod PoweredDown
-pub mod Refusals
+pub mod Laws
 pub mod Safe
+pub mod Complete
 pub mod Settling
+pub mod PoweredDown
 pub mod Test
-pub mod ToldHw
-pub mod ToldOff
-pub mod Waiting
 pub use Rattle.psci_world_spec.specs.psci_abi
 pub use Rattle.psci_board.specs as psci_board
 pub use Rattle.psci_fw_laws.specs.psci_messages.psci_state

@@ -6,9 +6,8 @@ use Rattle.psci_ctl_spec.specs.psci_messages.Message.{AckValue}
 use Rattle.psci_fw_laws.specs.psci_fw_spec.Phases.{Running, Away}
 use Rattle.psci_fw_laws.specs.psci_fw_spec.Values.{Values}
 use Rattle.psci_world_spec.specs.declared.said.Record.{Record}
-use Rattle.psci_world_spec.specs.Histories.{acks, controller_values}
-use Rattle.psci_world_spec.specs.Histories.{firmware_values}
-use Rattle.psci_headline.specs.Moments.{was_powered_down, is_reported_off}
+use Rattle.psci_world_spec.specs.Legal.{acks, controller_values, firmware_values}
+use Rattle.psci_headline.specs.Safe.{was_powered_down, is_reported_off}
 
 -- What the acknowledgement of a Down of which a part was applied says of its core, beside the
 -- firmware's values.

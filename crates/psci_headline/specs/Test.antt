@@ -1,18 +1,17 @@
 -- Safe, as tests that compute: one for each thing that is said of a moment.
-use Rattle.std.specs.Prelude.{ℕ, ◌+◌, Bool, true, false, ◌==◌, ◌&&◌, ◌||◌, not, nat_le, List, []}
-use Rattle.std.specs.Prelude.{◌∷◌, length, is_some, Option, None, Some}
+use Rattle.std.specs.Prelude.{◌&&◌, ◌+◌, ◌==◌, ◌||◌, ◌∷◌, [], Bool, false, is_some, length, List}
+use Rattle.std.specs.Prelude.{nat_le, None, not, Option, Some, true, ℕ}
 use Rattle.std.specs.List.{list_all, list_any, range_with_len}
 use Rattle.psci_fw_laws.specs.psci_board.Board.{BoardValue, cores, height, nodes, up}
-use Rattle.psci_fw_laws.specs.psci_board.declared.node.Node.{Node}
+use Rattle.psci_fw_laws.specs.psci_board.declared.draft.Node.{Node}
 use Rattle.psci_world_spec.specs.declared.place.Place.{Place}
 use Rattle.psci_world_spec.specs.declared.place.Place.TheVariants.{Started, Running, Stopped}
 use Rattle.psci_world_spec.specs.declared.said.Record.{Record}
-use Rattle.psci_world_spec.specs.Histories.{controller_values, firmware_history, firmware_values}
-use Rattle.psci_world_spec.specs.Places.{place}
-use Rattle.psci_headline.specs.Claims.{live_claims}
-use Rattle.psci_headline.specs.Hardware.{is_said_asleep, was_as_said}
-use Rattle.psci_headline.specs.Moments.{depth_at, executes, was_powered_down, is_reported_off}
-use Rattle.psci_headline.specs.Openings.{EnteredAt, Made, Maker, OfCall, OfLife, TakenUp, taken_up}
+use Rattle.psci_world_spec.specs.Legal.{controller_values, firmware_history, firmware_values}
+use Rattle.psci_world_spec.specs.Legal.{place}
+use Rattle.psci_headline.specs.Safe.{depth_at, EnteredAt, executes, is_reported_off}
+use Rattle.psci_headline.specs.Safe.{is_said_asleep, live_claims, Made, Maker, OfCall, OfLife}
+use Rattle.psci_headline.specs.Safe.{taken_up, TakenUp, was_as_said, was_powered_down}
 
 -- Everywhere on the board ---------------------------------------------------------------------
 

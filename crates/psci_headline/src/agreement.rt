@@ -2,21 +2,13 @@
 
 ghost use Rattle.std.specs.Prelude.{◌≡◌, ℕ, List, Some, slice_get};
 ghost use Rattle.psci_board.specs.Board.{BoardValue, IsBoard};
-ghost use Rattle.psci_ctl_spec.specs.Legal as controls;
-ghost use Rattle.psci_fw_laws.specs.psci_fw_spec.Sent.{sent_messages};
+ghost use Rattle.psci_ctl_spec.specs.History as controls;
+ghost use Rattle.psci_fw_laws.specs.psci_fw_spec.Effects.{sent_messages};
 ghost use Rattle.psci_ctl_spec.specs.psci_messages.Message.{AckValue};
 ghost use Rattle.psci_world_spec.specs.declared.said.Record.{Record};
-ghost use Rattle.psci_world_spec.specs.Histories.{acks, controller_history, firmware_history};
-ghost use Rattle.psci_world_spec.specs.Histories.{sent};
-ghost use Rattle.psci_world_spec.specs.Legal.{IsLegalPast};
-ghost use Rattle.psci_headline.specs.Acknowledged.{WasMade};
-ghost use Rattle.psci_headline.specs.Agreement.{Agree};
-ghost use Rattle.psci_headline.specs.Refusals.{NoneRefused};
-
-use psci_board::law_sizes;
-use psci_ctl_spec::{law_limits, law_replies, law_values};
-use psci_fw_laws::{law_caller, law_kept};
-use psci_world_spec::law_histories;
+ghost use Rattle.psci_world_spec.specs.Legal.{acks, controller_history, firmware_history};
+ghost use Rattle.psci_world_spec.specs.Legal.{IsLegalPast, sent};
+ghost use Rattle.psci_headline.specs.Laws.{Agree, NoneRefused, WasMade};
 
 /// The messages of a legal run are those that the firmware's history says were sent.
 pub fn law_sent()
@@ -29,40 +21,22 @@ pub fn law_sent()
 pub fn law_controlled()
     ensures { (b : BoardValue) (past : List Record) → IsBoard b → IsLegalPast b past
         → controls.IsLegal b (controller_history b past) }
-{
-    law_sizes();
-    law_kept();
-    law_histories();
-    law_sent();
-}
+{}
 
 /// Each acknowledgement was made as its message was delivered.
 pub fn law_acknowledged()
     ensures { (b : BoardValue) (past : List Record) → IsBoard b → IsLegalPast b past
         → (k : ℕ) (a : AckValue) → slice_get (acks past) k ≡ Some a → WasMade b past a }
-{
-    law_values();
-}
+{}
 
 /// Firmware and power controller agree on where each core is.
 pub fn law_agreement()
     ensures { (b : BoardValue) (past : List Record) → IsBoard b → IsLegalPast b past
         → Agree b past }
-{
-    law_values();
-    law_replies();
-    psci_fw_laws::law_values();
-    law_caller();
-    law_kept();
-    law_controlled();
-}
+{}
 
 /// The firmware refuses no call of a running core, and no entry of a started one.
 pub fn law_never_refused()
     ensures { (b : BoardValue) (past : List Record) → IsBoard b → IsLegalPast b past
         → NoneRefused b past }
-{
-    law_limits();
-    law_controlled();
-    law_agreement();
-}
+{}

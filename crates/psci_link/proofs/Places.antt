@@ -1,17 +1,20 @@
 -- The parts in their places: reading one more, and that reading and writing undo each other.
-use Rattle.std.proofs.Common.{◌≡◌, ℕ, zero, suc, ◌+◌, ◌-◌, ◌*◌, ◌^◌, ◌<◌, ◌≤◌, true, List, [], ◌∷◌}
-use Rattle.std.proofs.Common.{◌++◌, length, take, drop, replicate, refl, ap, arith, append_assoc}
-use Rattle.std.proofs.Common.{drop-drop, take-add, length-drop, length-append, sym, ◌∙◌}
+use Rattle.std.specs.Int.{from_be_bytes, w32, w64}
+use Rattle.std.specs.List.{AllByRecursion, flat_map, list_all}
 use Rattle.std.specs.Prelude.{◌==◌}
-use Rattle.std.specs.List.{flat_map, list_all, AllByRecursion}
-use Rattle.std.specs.Int.{w32, w64, from_be_bytes}
-use Rattle.std.proofs.lemmas.Nat.{be_bytes_8, from_be_bytes-to_be_bytes_8}
-use Rattle.std.proofs.lemmas.List.{get_or-drop, length-take-le, take-append-drop, length-replicate}
-use Rattle.std.proofs.lemmas.List.{drop_at, get_or-take, get_or_past, length-take}
+use Rattle.std.proofs.Common.{◌*◌, ◌++◌, ◌+◌, ◌-◌, ◌<◌, ◌^◌, ◌∙◌, ◌∷◌, ◌≡◌, ◌≤◌, [], ap}
+use Rattle.std.proofs.Common.{append_assoc, arith, drop, drop-drop, get_or, length}
+use Rattle.std.proofs.Common.{length-append, length-drop, List, refl, replicate, suc, sym, take}
+use Rattle.std.proofs.Common.{take-add, true, zero, ℕ}
+use Rattle.std.proofs.Math.ListN.{set}
 use Rattle.std.proofs.lemmas.Bool.{and_parts, eqb-true}
-use Rattle.psci_messages.specs.declared.part.Part.{Part}
-use Rattle.psci_link.specs.Frame.{AreBytes, part_in, parts_in, part_bytes, part_fields}
 use Rattle.std.proofs.lemmas.Bool.Decides.{nat_tests}
+use Rattle.std.proofs.lemmas.List.{drop_at, get_or-drop, get_or-take, get_or_past}
+use Rattle.std.proofs.lemmas.List.{length-replicate, length-take, length-take-le}
+use Rattle.std.proofs.lemmas.List.{take-append-drop}
+use Rattle.std.proofs.lemmas.Nat.{be_bytes_8, from_be_bytes-to_be_bytes_8}
+use Rattle.psci_messages.specs.declared.part.Part.{Part}
+use Rattle.psci_link.specs.Frame.{AreBytes, part_bytes, part_fields, part_in, parts_in}
 
 pub length-parts_in : (n : ℕ) (bytes : List ℕ) → length (parts_in n bytes) ≡ n
 length-parts_in zero bytes = refl
@@ -120,3 +123,39 @@ pub unused-places : (ps : List Part) → list_all (λ byte. byte == 0)
     (drop (10 * length ps) (part_fields ps)) ≡ true
 unfolding part_fields
 unused-places ps = grind (arith, nat_tests, drop_at, length-parts, unused-zero)
+
+-- Bytes that are written where they are to stand --------------------------------------------------
+
+-- the first four elements of a list
+abbrev these : List ℕ → List ℕ
+these xs = get_or xs 0 0 ∷ get_or xs 1 0 ∷ get_or xs 2 0 ∷ get_or xs 3 0 ∷ []
+
+four : (xs : List ℕ) → length xs ≡ 4 → xs ≡ these xs
+four (a ∷ b ∷ c ∷ d ∷ []) long = refl
+four other long = absurd (omega (arith, long))
+
+-- a list with others in the place of so many of its elements
+abbrev put : ℕ → ℕ → List ℕ → List ℕ → List ℕ
+put a k xs ys = take a xs ++ (ys ++ drop k (drop a xs))
+
+-- three fields of four bytes and a count, in a frame of zeros
+abbrev HeaderIsPut : List ℕ → List ℕ → List ℕ → ℕ → Type 0
+HeaderIsPut names life number count =
+    set (put 8 4 (put 4 4 (put 0 4 (replicate 53 0) names) life) number) 12 count
+    ≡ (names ++ (life ++ (number ++ count ∷ []))) ++ replicate 40 0
+
+pub header_put : (names life number : List ℕ) (count : ℕ) → length names ≡ 4 → length life ≡ 4
+    → length number ≡ 4 → HeaderIsPut names life number count
+header_put names life number count n l m = rw (four names n, four life l, four number m)
+
+none_after : (xs ys : List ℕ) → ys ++ drop (length xs) xs ≡ ys
+none_after [] [] = refl
+none_after [] (y ∷ ys) = simp (none_after [] ys)
+none_after (x ∷ xs) ys = none_after xs ys
+
+-- a level, a depth, and what stands behind them
+pub part_put : (level depth : ℕ) (xs ys : List ℕ) → length xs ≡ 10
+    → put 2 (length (set (set xs 0 level) 1 depth) - 2) (set (set xs 0 level) 1 depth) ys
+    ≡ level ∷ depth ∷ ys
+part_put level depth (a ∷ b ∷ xs) ys long = grind (arith, nat_tests, set, none_after)
+part_put level depth other ys long = absurd (omega (arith, long))

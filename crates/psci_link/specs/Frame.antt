@@ -1,26 +1,26 @@
 -- Frames: how each is spelled in bytes, and the first fault of bytes that spell none.
-use Rattle.std.specs.Prelude.{◌≡◌, ℕ, zero, suc, ◌+◌, ◌-◌, ◌*◌, ◌^◌, ◌<◌, Bool, true, not, List, []}
-use Rattle.std.specs.Prelude.{◌∷◌, ◌++◌, length, flat_map, replicate, drop, slice_index}
-use Rattle.std.specs.Prelude.{slice_range, if◌then◌else◌, Option, Some, None, ◌&&◌, ◌==◌, nat_lt}
-use Rattle.std.specs.Prelude.{nat_le}
+use Rattle.std.specs.Prelude.{◌&&◌, ◌*◌, ◌++◌, ◌+◌, ◌-◌, ◌<◌, ◌==◌, ◌^◌, ◌∷◌, ◌≡◌, [], Bool}
+use Rattle.std.specs.Prelude.{drop, flat_map, if◌then◌else◌, length, List, nat_le, nat_lt, None}
+use Rattle.std.specs.Prelude.{not, Option, replicate, slice_index, slice_range, Some, suc, true}
+use Rattle.std.specs.Prelude.{zero, ℕ}
 use Rattle.std.specs.List.{list_all, AllByRecursion}
 use Rattle.std.specs.Int.{w32, w64, to_be_bytes, from_be_bytes}
-use Rattle.psci_board.specs.declared.node.Core.{Core}
+use Rattle.psci_board.specs.declared.draft.Core.{Core}
 use Rattle.psci_board.specs.Board.{BoardValue, cores, height}
-use Rattle.psci_messages.specs.psci_state.Ask.{power_down}
+use Rattle.psci_messages.specs.psci_state.PowerState.{power_down}
 use Rattle.psci_messages.specs.declared.part.Part.{Part}
-use Rattle.psci_link.specs.declared.frame.TheConstants.{FRAME_LEN, HEADER_LEN, PART_LEN}
+use Rattle.psci_link.specs.declared.encoding.TheConstants.{FRAME_LEN, HEADER_LEN, PART_LEN}
 use Rattle.psci_messages.specs.declared.parts.TheConstants.{MOST_PARTS}
 use Rattle.psci_messages.specs.declared.kind.Kind.{Kind}
 use Rattle.psci_messages.specs.declared.kind.Kind.TheVariants.{Down, Start, Off, Reset}
-use Rattle.psci_link.specs.declared.fault.FrameFault.{FrameFault}
-use Rattle.psci_link.specs.declared.fault.FrameFault.TheVariants as faults
-use Rattle.psci_link.specs.declared.frame.Frame.{Frame}
-use Rattle.psci_link.specs.declared.frame.Frame.TheVariants.{Message, Ack}
-use Rattle.psci_link.specs.declared.heading.Heading.{Heading}
-use Rattle.psci_link.specs.declared.heading.Heading.TheVariants as headings
-use Rattle.psci_messages.specs.Message.{MessageValue, AckValue, IsMessage, IsAck, is_climbing}
-use Rattle.psci_messages.specs.Message.{is_falling}
+use Rattle.psci_link.specs.declared.parts.FrameFault.{FrameFault}
+use Rattle.psci_link.specs.declared.parts.FrameFault.TheVariants as faults
+use Rattle.psci_link.specs.declared.encoding.Frame.{Frame}
+use Rattle.psci_link.specs.declared.encoding.Frame.TheVariants.{Message, Ack}
+use Rattle.psci_link.specs.declared.decoding.Heading.{Heading}
+use Rattle.psci_link.specs.declared.decoding.Heading.TheVariants as headings
+use Rattle.psci_messages.specs.Message.{AckValue, is_climbing, is_falling, IsAck, IsMessage}
+use Rattle.psci_messages.specs.Message.{MessageValue}
 use Rattle.psci_link.specs.Heading.{is_magic, heading_of, allows_count, parts_of, IsHeld}
 
 -- Spelling ------------------------------------------------------------------------------------

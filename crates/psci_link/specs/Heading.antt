@@ -4,11 +4,11 @@ use Rattle.std.specs.Prelude.{◌&&◌, ◌==◌, nat_le, if◌then◌else◌, O
 use Rattle.std.specs.Prelude.{option_and_then}
 use Rattle.psci_messages.specs.declared.part.Part.{Part}
 use Rattle.psci_messages.specs.declared.parts.TheConstants.{MOST_PARTS}
-use Rattle.psci_link.specs.declared.frame.TheConstants.{FRAME_LEN}
+use Rattle.psci_link.specs.declared.encoding.TheConstants.{FRAME_LEN}
 use Rattle.psci_messages.specs.declared.kind.Kind.{Kind}
 use Rattle.psci_messages.specs.declared.kind.Kind.TheVariants.{Down, Start, Off, Reset}
-use Rattle.psci_link.specs.declared.heading.Heading.{Heading}
-use Rattle.psci_link.specs.declared.heading.Heading.TheVariants.{Message, Ack}
+use Rattle.psci_link.specs.declared.decoding.Heading.{Heading}
+use Rattle.psci_link.specs.declared.decoding.Heading.TheVariants.{Message, Ack}
 use Rattle.psci_messages.specs.Message.{ArePartsOf, most_applied}
 
 -- the first two bytes of a frame

@@ -1,27 +1,22 @@
 //! Reading frames.
 
-ghost use Rattle.std.specs.Prelude.{◌≡◌, ◌≤◌, ◌<◌, ◌+◌, ◌*◌, Ok, Some, None, MatchResult, IfOk};
-ghost use Rattle.std.specs.Prelude.{IfErr, length, slice_index};
-ghost use Rattle.psci_link.specs.declared.frame.Frame.TheVariants as frames;
-ghost use Rattle.psci_link.specs.declared.heading.Heading.TheVariants as headings;
-ghost use Rattle.psci_link.specs.Heading.{parts_of, HasHeading};
+ghost use Rattle.std.specs.List.{list_all};
+ghost use Rattle.std.specs.Prelude.{◌&&◌, ◌*◌, ◌+◌, ◌<◌, ◌==◌, ◌≡◌, ◌≤◌, IfErr, IfOk, length};
+ghost use Rattle.std.specs.Prelude.{MatchResult, None, Ok, slice_index, Some};
 ghost use Rattle.psci_board.specs.Board.{BoardValue};
-ghost use Rattle.std.specs.Prelude.{◌==◌, ◌&&◌};
-ghost use Rattle.psci_link.specs.Frame.{frame_bytes, IsFrame, IsOf, parts_in, word_at};
-ghost use Rattle.psci_link.specs.Frame.{part_fields_in, count_in, fault_of_kind, fault_of_parts};
-ghost use Rattle.psci_link.specs.Frame.{IsHeldIn, first_fault, frame_in, heading_for};
-ghost use Rattle.psci_link.specs.Frame.{is_unused_after};
+ghost use Rattle.psci_link.specs.Frame.{count_in, fault_of_kind, fault_of_parts, first_fault};
+ghost use Rattle.psci_link.specs.Frame.{frame_bytes, frame_in, heading_for, is_unused_after};
+ghost use Rattle.psci_link.specs.Frame.{IsFrame, IsHeldIn, IsOf, part_fields_in, parts_in, word_at};
+ghost use Rattle.psci_link.specs.Heading.{HasHeading, parts_of};
+ghost use Rattle.psci_link.specs.declared.encoding.Frame.TheVariants as frames;
+ghost use Rattle.psci_link.specs.declared.decoding.Heading.TheVariants as headings;
 
-use crate::encoding::MAGIC;
-use crate::fault::FrameFault;
-use crate::frame::{
-    CORE_AT, COUNT_AT, FRAME_LEN, Frame, HEADER_LEN, KIND_AT, LIFE_AT, NUMBER_AT, PART_LEN,
+use crate::encoding::{
+    CORE_AT, COUNT_AT, FRAME_LEN, Frame, HEADER_LEN, KIND_AT, LIFE_AT, MAGIC, NUMBER_AT, PART_LEN,
 };
-use crate::heading::Heading;
-use crate::parts::{check_parts, parts_in};
-use crate::zero::is_zero;
+use crate::parts::{FrameFault, check_parts, parts_in};
 use psci_board::{Board, Core};
-use psci_messages::{Ack, Kind, Message, Parts};
+use psci_messages::{Ack, Kind, MOST_PARTS, Message, Parts};
 
 /// The frame that the bytes are on this board, or their first fault.
 pub fn decode(bytes: &[u8], board: &Board) -> Result<Frame, FrameFault>
@@ -41,7 +36,7 @@ pub fn decode(bytes: &[u8], board: &Board) -> Result<Frame, FrameFault>
 /// frame: `message_in` and `ack_in` read what the caller wants of it. Compiled into its callers, so
 /// that a kind is never written to memory.
 #[inline(always)]
-#[tactic(auto, using(crate::proofs::Reading::read_laws))]
+#[tactic(auto, using(crate::proofs::Frames::read_laws))]
 pub fn heading_on(bytes: &[u8], board: &Board) -> Result<Heading, FrameFault>
     ensures heading { IfOk result (HasHeading bytes.now) }
     ensures held { IfOk result (λ heading. IsHeldIn heading bytes.now) }
@@ -225,4 +220,104 @@ fn number_at(bytes: &[u8], start: usize) -> u32
         bytes[start + 2],
         bytes[start + 3],
     ])
+}
+
+// What the kind byte of a frame says.
+
+/// How many parts a Down has at least: that of its core.
+const LEAST_PARTS: u8 = 1;
+
+/// What a message that is no Down counts as applied at most: that it was carried out.
+const MOST_CARRIED: u8 = 1;
+
+/// What kind of frame bytes are.
+#[derive(Clone, Copy, Debug, PartialEq, Eq)]
+pub enum Heading {
+    /// A message of this kind.
+    Message(Kind),
+    /// An acknowledgement of a message of this kind, and whether it is stale.
+    Ack(Kind, bool),
+}
+
+ghost use Rattle.std.specs.Prelude.{◌≡◌, ◌≤◌, nat_le, true};
+ghost use Rattle.psci_link.specs.Heading.{kind_of, heading_of, allows_count, parts_of};
+
+impl Heading {
+    /// What a kind byte says, if it is one.
+    pub fn of(byte: u8) -> Option<Heading>
+        ensures { result ≡ heading_of byte }
+    {
+        let kind = kind_of(byte % 16)?;
+        match byte / 16 {
+            0 => Some(Heading::Message(kind)),
+            1 => Some(Heading::Ack(kind, false)),
+            2 => Some(Heading::Ack(kind, true)),
+            _ => None,
+        }
+    }
+
+    /// Whether a frame of this kind may have this count.
+    pub fn allows_count(self, count: u8) -> bool
+        ensures { result ≡ allows_count self count }
+    {
+        match self {
+            Heading::Message(Kind::Down) => LEAST_PARTS <= count && is_room(count),
+            Heading::Message(_) => count == 0,
+            Heading::Ack(Kind::Down, _) => is_room(count),
+            Heading::Ack(..) => count <= MOST_CARRIED,
+        }
+    }
+
+    /// How many parts a frame of this kind and count has.
+    pub fn parts(self, count: u8) -> u8
+        requires { allows_count self count ≡ true }
+        ensures parts { result ≡ parts_of self count }
+        ensures few { result ≤ 4 }
+    {
+        match self {
+            Heading::Message(_) => count,
+            Heading::Ack(..) => 0,
+        }
+    }
+}
+
+/// Whether a frame has room for so many parts.
+fn is_room(count: u8) -> bool
+    ensures { result ≡ nat_le count MOST_PARTS }
+{
+    count as usize <= MOST_PARTS
+}
+
+/// The kind that the low half of a kind byte names, if it names one.
+fn kind_of(code: u8) -> Option<Kind>
+    ensures { result ≡ kind_of code }
+{
+    match code {
+        1 => Some(Kind::Down),
+        2 => Some(Kind::Start),
+        3 => Some(Kind::Off),
+        4 => Some(Kind::Reset),
+        _ => None,
+    }
+}
+
+// Whether bytes are zero.
+
+/// Whether each byte is zero. They are looked at as words of eight bytes, as far as they go.
+pub fn is_zero(bytes: &[u8]) -> bool
+    ensures { result ≡ list_all (λ byte. byte == 0) bytes.now }
+{
+    match bytes {
+        [a, b, c, d, e, f, g, h, rest @ ..] => {
+            u64::from_be_bytes([*a, *b, *c, *d, *e, *f, *g, *h]) == 0 && is_zero(rest)
+        }
+        _ => is_each_zero(bytes),
+    }
+}
+
+/// The same, byte by byte.
+fn is_each_zero(bytes: &[u8]) -> bool
+    ensures { result ≡ list_all (λ byte. byte == 0) bytes.now }
+{
+    bytes.iter().all(|&byte| byte == 0)
 }

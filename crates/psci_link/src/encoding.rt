@@ -1,16 +1,13 @@
 //! Writing frames.
 
-ghost use Rattle.std.specs.Prelude.{◌≡◌, ◌++◌, ◌≤◌, ◌<◌, ◌^◌, ◌∷◌, [], length, replicate, true};
-ghost use Rattle.std.specs.Int.{w64, to_be_bytes};
+ghost use Rattle.std.specs.Int.{to_be_bytes, w64};
 ghost use Rattle.std.specs.List.{AllByRecursion};
-ghost use Rattle.psci_link.specs.Frame.{kind_code, header, part_bytes, part_fields, frame_bytes};
-ghost use Rattle.psci_link.specs.Frame.{IsFrame};
-ghost use Rattle.psci_link.specs.declared.frame.Frame.TheVariants as frames;
+ghost use Rattle.std.specs.Prelude.{◌++◌, ◌<◌, ◌^◌, ◌∷◌, ◌≡◌, ◌≤◌, [], length, replicate, true};
+ghost use Rattle.psci_link.specs.Frame.{frame_bytes, header, IsFrame, kind_code, part_bytes};
+ghost use Rattle.psci_link.specs.Frame.{part_fields};
+ghost use Rattle.psci_link.specs.declared.encoding.Frame.TheVariants as frames;
 ghost use Rattle.psci_messages.specs.Message.{is_climbing};
 
-use crate::frame::{
-    COUNT_AT, FRAME_LEN, Frame, GENERATION_AT, HEADER_LEN, LIFE_AT, NUMBER_AT, PART_LEN,
-};
 use psci_board::Core;
 use psci_messages::{Ack, Kind, MOST_PARTS, Message, Part};
 
@@ -156,4 +153,54 @@ fn generation_bytes(part: &Part) -> [u8; 8]
     ensures fits { part.now.generation < 2 ^ 64 }
 {
     part.generation.to_be_bytes()
+}
+
+// Frames: what is sent in either direction.
+
+/// How many bytes a frame has.
+pub const FRAME_LEN: usize = 53;
+
+/// How many bytes stand before the parts.
+pub const HEADER_LEN: usize = 13;
+
+/// How many bytes a part has.
+pub const PART_LEN: usize = 10;
+
+/// Where the generation begins in a part, after its level and depth.
+pub const GENERATION_AT: usize = 2;
+
+/// Where the kind byte stands, after the first two bytes.
+pub const KIND_AT: usize = 2;
+
+/// Where the number of the core stands.
+pub const CORE_AT: usize = 3;
+
+/// Where the life begins.
+pub const LIFE_AT: usize = 4;
+
+/// Where the number of the message begins.
+pub const NUMBER_AT: usize = 8;
+
+/// Where the count stands: how many parts a message has, or how many were applied.
+pub const COUNT_AT: usize = 12;
+
+/// A message or an acknowledgement.
+#[derive(Debug, PartialEq, Eq, Drop)]
+pub enum Frame {
+    /// From the firmware to the power controller.
+    Message(Message),
+    /// From the power controller to the firmware.
+    Ack(Ack),
+}
+
+impl Frame {
+    /// The same frame again.
+    pub fn copy(&self) -> Frame
+        ensures { result ≡ self.now }
+    {
+        match self {
+            Frame::Message(message) => Frame::Message(message.copy()),
+            Frame::Ack(ack) => Frame::Ack(ack.copy()),
+        }
+    }
 }

@@ -7,19 +7,13 @@
 
 mod decoding;
 mod encoding;
-mod fault;
-mod frame;
-mod heading;
 mod laws;
 mod parts;
-mod zero;
 
-pub use decoding::{ack_in, decode, heading_on, message_in};
-pub use encoding::{encode, encode_ack, encode_message, write_message};
-pub use fault::FrameFault;
-pub use frame::{FRAME_LEN, Frame};
-pub use heading::Heading;
+pub use decoding::{Heading, ack_in, decode, heading_on, message_in};
+pub use encoding::{FRAME_LEN, Frame, encode, encode_ack, encode_message, write_message};
 pub use laws::law_frames;
+pub use parts::FrameFault;
 pub use psci_messages::{
     Ack, Cause, Kind, Message, Part, Parts, Slots, Start, Taken, law_parts, law_slots,
 };

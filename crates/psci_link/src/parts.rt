@@ -1,15 +1,15 @@
 //! The parts of a frame: how they are read, and what may be wrong with them.
 
-ghost use Rattle.std.specs.Prelude.{◌≡◌, ◌≤◌, ◌<◌, ◌^◌, ◌+◌, ◌*◌, ◌&&◌, Some, None, MatchResult};
-ghost use Rattle.std.specs.Prelude.{length};
-ghost use Rattle.psci_messages.specs.Message.{is_climbing, is_falling};
+ghost use Rattle.std.specs.Prelude.{◌&&◌, ◌*◌, ◌+◌, ◌<◌, ◌^◌, ◌≡◌, ◌≤◌, length, MatchResult, None};
+ghost use Rattle.std.specs.Prelude.{Some};
 ghost use Rattle.psci_link.specs.Frame.{fault_of_parts, is_within, part_in, parts_in};
+ghost use Rattle.psci_messages.specs.Message.{is_climbing, is_falling};
 
-use crate::fault::FrameFault;
-use crate::frame::PART_LEN;
+use crate::encoding::PART_LEN;
 use psci_board::Board;
 use psci_messages::{Part, Parts};
 use psci_state::POWER_DOWN;
+use thiserror::Error;
 
 /// The first fault of the parts of a message on this board, if they have one.
 pub fn check_parts(board: &Board, parts: &[Part]) -> Result<(), FrameFault>
@@ -90,4 +90,27 @@ fn is_within(height: u32, parts: &[Part]) -> bool
     ensures { result ≡ is_within height parts.now }
 {
     parts.iter().all(|part| part.level <= height)
+}
+
+// Why bytes are no frame.
+
+/// The first fault of a frame.
+#[derive(Clone, Copy, Debug, PartialEq, Eq, Error)]
+pub enum FrameFault {
+    #[error("a frame has 53 bytes")]
+    Length,
+    #[error("the bytes do not begin as a frame does")]
+    Magic,
+    #[error("there is no such kind of frame")]
+    Kind,
+    #[error("the kind does not allow this count")]
+    Count,
+    #[error("a byte that is not used is not zero")]
+    Unused,
+    #[error("the board has no such core")]
+    Core,
+    #[error("a depth is not 1 to 3, or above the depth below it")]
+    Depth,
+    #[error("a level is left out, or above the height of the board")]
+    Level,
 }

@@ -2,21 +2,19 @@
 use Rattle.std.proofs.Common.{◌≡◌, List, [], ◌∷◌, ◌++◌, reverse, refl, ap, sym, ◌∙◌}
 use Rattle.std.proofs.lemmas.List.{reverse-reverse}
 use Rattle.psci_fw.specs.psci_board.Board.{BoardValue}
-use Rattle.psci_ctl.specs.psci_ctl_spec.Changes as changes
-use Rattle.psci_ctl.specs.psci_ctl_spec.Exchange as controls
+use Rattle.psci_ctl.specs.psci_ctl_spec.Replies as changes
+use Rattle.psci_ctl.specs.psci_ctl_spec.Values as controls
 use Rattle.psci_ctl.specs.psci_ctl_spec.History as controlled
-use Rattle.psci_fw.specs.psci_fw_spec.After.{after}
-use Rattle.psci_fw.specs.psci_fw_spec.Exchange as answers
+use Rattle.psci_fw.specs.psci_fw_spec.Effects.{after}
+use Rattle.psci_fw.specs.psci_fw_spec.Effects as answers
 use Rattle.psci_fw.specs.psci_fw_spec.History as kept
 use Rattle.psci_fw.specs.psci_messages.Message.{AckValue, MessageValue}
 use Rattle.psci_world_spec.specs.declared.event.Event.{Event}
 use Rattle.psci_world_spec.specs.declared.said.Record.{Record}
 use Rattle.psci_world_spec.specs.declared.said.Said.{Said}
-use Rattle.psci_world_spec.specs.Histories.{acks, call, control, controller_history}
-use Rattle.psci_world_spec.specs.Histories.{controller_values, firmware_history, sent}
-use Rattle.psci_world_spec.specs.Places.{place}
-use Rattle.psci_machine.specs.Next.{IsNext, controlled_after, kept_after}
-use Rattle.psci_machine.specs.Seen.{IsAfter, MachineValue}
+use Rattle.psci_world_spec.specs.Legal.{acks, call, control, controller_history}
+use Rattle.psci_world_spec.specs.Legal.{controller_values, firmware_history, place, sent}
+use Rattle.psci_machine.specs.Seen.{controlled_after, IsAfter, IsNext, kept_after, MachineValue}
 
 -- What histories say of one exchange more, by the laws of the crates below.
 pub record HistoryLaws (b : BoardValue) : Type 0 where

@@ -1,10 +1,10 @@
 -- What a wake-up or a reset of a core says and leaves, and a message that is delivered.
-use Rattle.std.proofs.Common.{◌≡◌, ℕ, ◌<◌, ◌==◌, Bool, true, false, List, Option, None, Some, cond}
-use Rattle.std.proofs.Common.{reverse, refl, ap, sym, ◌∙◌, subst}
+use Rattle.std.proofs.Common.{◌<◌, ◌==◌, ◌∙◌, ◌≡◌, ap, Bool, cond, false, List, None, Option}
+use Rattle.std.proofs.Common.{refl, reverse, Some, subst, sym, true, ℕ}
 use Rattle.std.specs.Prelude.{is_some, nat_lt, slice_get, unwrap_or}
 use Rattle.std.proofs.lemmas.List.{reverse-reverse}
 use Rattle.psci_fw.specs.psci_board.Board.{BoardValue, cores}
-use Rattle.psci_fw.specs.psci_board.declared.node.Core.{Core}
+use Rattle.psci_fw.specs.psci_board.declared.draft.Core.{Core}
 use Rattle.psci_ctl.specs.Seen.{ControllerValue, seen}
 use Rattle.psci_ctl.specs.psci_ctl_spec.declared.call.CtlCall.{CtlCall}
 use Rattle.psci_ctl.specs.psci_ctl_spec.declared.call.CtlCall.TheVariants as calls
@@ -12,12 +12,12 @@ use Rattle.psci_ctl.specs.psci_ctl_spec.declared.delivery.Delivery.TheVariants a
 use Rattle.psci_ctl.specs.psci_ctl_spec.declared.kick.Kick.{Kick}
 use Rattle.psci_ctl.specs.psci_ctl_spec.declared.kick.Kick.TheVariants as kicks
 use Rattle.psci_ctl.specs.psci_ctl_spec.declared.reply.CtlReply.TheVariants as replies
-use Rattle.psci_ctl.specs.psci_ctl_spec.Changes.{after, change, next_life}
-use Rattle.psci_ctl.specs.psci_ctl_spec.Effects.{Begins, Ends, effect_of, message_effect}
-use Rattle.psci_ctl.specs.psci_ctl_spec.Replies.{ack_by, delivery_of, is_this_life, reply}
+use Rattle.psci_ctl.specs.psci_ctl_spec.Replies.{ack_by, after, Begins, change, delivery_of}
+use Rattle.psci_ctl.specs.psci_ctl_spec.Replies.{effect_of, Ends, is_this_life, message_effect}
+use Rattle.psci_ctl.specs.psci_ctl_spec.Replies.{next_life, reply}
 use Rattle.psci_ctl.specs.psci_ctl_spec.Values.{Values}
-use Rattle.psci_fw.specs.Seen as firmware
-use Rattle.psci_fw.specs.Seen.{FirmwareValue}
+use Rattle.psci_fw.specs.Reactions as firmware
+use Rattle.psci_fw.specs.Reactions.{FirmwareValue}
 use Rattle.psci_fw.specs.psci_messages.declared.kind.Kind.{Kind}
 use Rattle.psci_fw.specs.psci_messages.declared.kind.Kind.TheVariants as kinds
 use Rattle.psci_fw.specs.psci_messages.Message.{AckValue, MessageValue}
@@ -26,11 +26,8 @@ use Rattle.psci_world_spec.specs.declared.place.Place.{Place}
 use Rattle.psci_world_spec.specs.declared.place.Place.TheVariants.{Started, Stopped}
 use Rattle.psci_world_spec.specs.declared.said.Said.{Said}
 use Rattle.psci_world_spec.specs.declared.said.Said.TheVariants.{Acked}
-use Rattle.psci_world_spec.specs.Legal.{if_stopped, on_board, said_by}
-use Rattle.psci_world_spec.specs.Lists.{indexed}
-use Rattle.psci_world_spec.specs.Places.{place_of_effect}
-use Rattle.psci_machine.specs.Next.{IsNext, place_kicked}
-use Rattle.psci_machine.specs.Seen.{MachineValue, machine_board, place_in}
+use Rattle.psci_world_spec.specs.Legal.{if_stopped, indexed, on_board, place_of_effect, said_by}
+use Rattle.psci_machine.specs.Seen.{IsNext, machine_board, MachineValue, place_in, place_kicked}
 
 -- Wake-ups and resets --------------------------------------------------------------------------
 

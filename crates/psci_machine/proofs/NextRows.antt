@@ -1,19 +1,19 @@
 -- Worked examples: what no event leaves.
-use Rattle.std.proofs.Common.{◌≡◌, ◌<◌, [], ◌∷◌, None, Some, refl, arith, ap, sym, subst, ◌∙◌, ◌+◌}
+use Rattle.std.proofs.Common.{◌≡◌, ◌<◌, [], ◌∷◌, None, Some, refl, arith, ap, sym, subst, ◌∙◌}
+use Rattle.std.proofs.Common.{◌+◌}
 use Rattle.std.proofs.lemmas.Bool.{eqb-false}
 use Rattle.psci_fw.specs.psci_board.Board.{BoardValue, cores}
 use Rattle.psci_ctl.specs.Seen as controller
-use Rattle.psci_ctl.specs.psci_ctl_spec.Changes.{after as changed}
+use Rattle.psci_ctl.specs.psci_ctl_spec.Replies.{after as changed}
 use Rattle.psci_ctl.specs.psci_ctl_spec.Values as controlled
-use Rattle.psci_fw.specs.Seen as firmware
+use Rattle.psci_fw.specs.Reactions as firmware
 use Rattle.psci_fw.specs.psci_fw_spec.Values as kept
 use Rattle.psci_fw.specs.psci_messages.declared.start.Cause.TheVariants as causes
 use Rattle.psci_world_spec.specs.declared.event.Event.TheVariants.{Enter, Wake}
 use Rattle.psci_world_spec.specs.declared.place.Place.TheVariants.{Running, Stopped}
 use Rattle.psci_world_spec.specs.declared.said.Said.TheVariants.{Absent}
 use Rattle.psci_world_spec.proofs.Scripts.{board, computing, one_core, started}
-use Rattle.psci_machine.specs.Next.{IsNext}
-use Rattle.psci_machine.specs.Seen.{MachineValue, machine_board, place_in}
+use Rattle.psci_machine.specs.Seen.{IsNext, machine_board, MachineValue, place_in}
 use Rattle.psci_machine.proofs.SeenRows.{no_life_is_one, stopped_starts}
 
 -- One event more --------------------------------------------------------------------------------

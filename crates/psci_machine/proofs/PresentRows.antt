@@ -3,13 +3,12 @@ use Rattle.std.proofs.Common.{◌≡◌, ℕ, List, [], ◌∷◌, length, ap, r
 use Rattle.std.proofs.lemmas.Bool.{eqb-false}
 use Rattle.psci_fw.specs.psci_board.Board.{cores}
 use Rattle.psci_fw.specs.psci_messages.Message.{MessageValue}
-use Rattle.psci_machine.specs.Seen.{machine_board}
+use Rattle.psci_machine.specs.Seen.{IsPresent, machine_board, PresentValue}
 use Rattle.psci_world_spec.specs.declared.event.Event.TheVariants.{Deliver, Enter}
 use Rattle.psci_world_spec.specs.declared.said.Record.{Record}
 use Rattle.psci_world_spec.specs.declared.said.Said.TheVariants.{Absent}
 use Rattle.psci_world_spec.specs.Legal.{run_from}
 use Rattle.psci_world_spec.proofs.Scripts.{board, call, computing, enters, on_3, one_core}
-use Rattle.psci_machine.specs.Present.{IsPresent, PresentValue}
 
 -- core 3 was asked on, then core 1; the first of these was carried out
 abbrev two_asked : List Record

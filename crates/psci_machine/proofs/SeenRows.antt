@@ -1,13 +1,14 @@
 -- Worked examples: machines of which just one thing is not so that holds of every machine, or after
 -- some records.
-use Rattle.std.proofs.Common.{◌≡◌, ◌<◌, ℕ, List, [], ◌∷◌, None, Some, length, arith, ap, refl, sym}
-use Rattle.std.proofs.Common.{◌∙◌}
+use Rattle.std.proofs.Common.{◌<◌, ◌∙◌, ◌∷◌, ◌≡◌, [], ap, arith, length, List, None, refl, Some}
+use Rattle.std.proofs.Common.{sym, ℕ}
 use Rattle.std.proofs.lemmas.Bool.{eqb-false}
 use Rattle.psci_fw.specs.psci_board.Board.{BoardValue, cores}
 use Rattle.psci_ctl.specs.Seen as controller
 use Rattle.psci_ctl.specs.psci_ctl_spec.Values as controlled
-use Rattle.psci_fw.specs.Seen as firmware
-use Rattle.psci_fw.specs.psci_fw_spec.declared.mode.SuspendMode.TheVariants.{OsInitiated, Platform}
+use Rattle.psci_fw.specs.Reactions as firmware
+use Rattle.psci_fw.specs.psci_fw_spec.declared.mode.SuspendMode.TheVariants.{OsInitiated}
+use Rattle.psci_fw.specs.psci_fw_spec.declared.mode.SuspendMode.TheVariants.{Platform}
 use Rattle.psci_fw.specs.psci_fw_spec.declared.status.Status.TheVariants as statuses
 use Rattle.psci_fw.specs.psci_fw_spec.Values as kept
 use Rattle.psci_world_spec.specs.declared.event.Event.TheVariants.{Deliver, Enter, Wake}

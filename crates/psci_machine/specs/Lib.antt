@@ -1,8 +1,6 @@
-pub mod Next
-pub mod Present
 pub mod Seen
 pub use Rattle.psci_ctl.specs.Seen as Controller
-pub use Rattle.psci_fw.specs.Seen as Firmware
+pub use Rattle.psci_fw.specs.Reactions as Firmware
 pub use Rattle.psci_fw.specs.psci_board
 pub use Rattle.psci_fw.specs.psci_messages
 pub use Rattle.psci_ctl.specs.psci_ctl_spec

@@ -1,23 +1,21 @@
 //! The firmware is asked: calls, entries, and acknowledgements that it takes.
 
-ghost use Rattle.std.specs.Prelude.{◌≡◌, ◌<◌, ◌==◌, ℕ, List, None, Some, if◌then◌else◌, nat_lt};
-ghost use Rattle.std.specs.Prelude.{slice_get};
+ghost use Rattle.std.specs.Prelude.{◌<◌, ◌==◌, ◌≡◌, if◌then◌else◌, List, nat_lt, None, slice_get};
+ghost use Rattle.std.specs.Prelude.{Some, ℕ};
 ghost use Rattle.psci_fw.specs.psci_board.Board.{cores};
 ghost use Rattle.psci_ctl.specs.Seen as controller;
 ghost use Rattle.psci_ctl.specs.psci_ctl_spec.Replies.{last_start};
-ghost use Rattle.psci_fw.specs.Seen.{seen};
+ghost use Rattle.psci_fw.specs.Reactions.{seen};
 ghost use Rattle.psci_fw.specs.psci_fw_spec.declared.call.FwCall.TheVariants as calls;
 ghost use Rattle.psci_fw.specs.psci_fw_spec.declared.reply.FwReply.TheVariants as replies;
 ghost use Rattle.psci_fw.specs.psci_fw_spec.Answer.{answer};
 ghost use Rattle.psci_fw.specs.psci_messages.Message.{AckValue, MessageValue};
 ghost use Rattle.psci_world_spec.specs.declared.event.Event.TheVariants as events;
-ghost use Rattle.psci_world_spec.specs.Legal.{if_running, on_board, said_of};
-ghost use Rattle.psci_world_spec.specs.Places.{place_after};
-ghost use Rattle.psci_machine.specs.Next.{IsNext, if_entering, if_there};
-ghost use Rattle.psci_machine.specs.Seen.{machine_board, place_in};
+ghost use Rattle.psci_world_spec.specs.Legal.{if_running, on_board, place_after, said_of};
+ghost use Rattle.psci_machine.specs.Seen.{if_entering, if_there, IsNext, machine_board, place_in};
 
 use crate::machine::Machine;
-use crate::place::place_after;
+use crate::starting::place_after;
 use psci_ctl::{Ack, Core};
 use psci_fw::{Outcome, Regs, law_sizes};
 use psci_world_spec::{Place, Said, Sent};

@@ -9,9 +9,7 @@
 #![tactic(auto)]
 
 mod asking;
-mod kept;
 mod machine;
-mod place;
 mod present;
 mod starting;
 

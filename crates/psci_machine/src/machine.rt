@@ -1,6 +1,6 @@
 //! The machine of one board.
 
-use crate::place::first_places;
+use crate::starting::first_places;
 use psci_ctl::{
     Ack, Board, Controller, Core, Memory, Message, law_values as law_controller_values,
 };
@@ -40,12 +40,10 @@ impl Model for Machine {
 ghost use Rattle.std.specs.Prelude.{◌≡◌, ◌<◌, ℕ, List, [], ◌∷◌, IfOk, reverse, slice_get, Some};
 ghost use Rattle.psci_fw.specs.psci_board.Board.{BoardValue, cores};
 ghost use Rattle.psci_fw.specs.psci_messages.Message.{MessageValue};
-ghost use Rattle.psci_ctl.specs.psci_ctl_spec.Legal.{IsOfBoard};
+ghost use Rattle.psci_ctl.specs.psci_ctl_spec.History.{IsOfBoard};
 ghost use Rattle.psci_world_spec.specs.declared.said.Record.{Record};
-ghost use Rattle.psci_world_spec.specs.Histories.{acks, sent};
-ghost use Rattle.psci_world_spec.specs.Legal.{legal};
-ghost use Rattle.psci_machine.specs.Next.{IsNext};
-ghost use Rattle.psci_machine.specs.Seen.{IsAfter, IsMachine, machine_board, place_in};
+ghost use Rattle.psci_world_spec.specs.Legal.{acks, legal, sent};
+ghost use Rattle.psci_machine.specs.Seen.{IsAfter, IsMachine, IsNext, machine_board, place_in};
 
 impl Machine {
     /// The machine of this board, before any event.

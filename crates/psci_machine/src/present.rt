@@ -1,10 +1,9 @@
 //! The present of a world.
 
-use crate::kept::{keep_ack, keep_message};
 use crate::machine::Machine;
+use crate::starting::{keep_ack, keep_message};
 use psci_ctl::{Ack, Board, Memory, Message};
-use psci_headline::{law_messages, law_sent};
-use psci_world_spec::{Event, Said, law_histories};
+use psci_world_spec::{Event, Said};
 use std::alloc::Global;
 use std::marker::Model;
 
@@ -20,7 +19,7 @@ pub struct Present {
 }
 
 impl Model for Present {
-    ghost use Rattle.psci_machine.specs.Present.{HasPast, PresentValue};
+    ghost use Rattle.psci_machine.specs.Seen.{HasPast, PresentValue};
 
     ghost Value = { PresentValue };
 
@@ -41,7 +40,7 @@ ghost use Rattle.std.specs.Prelude.{◌≡◌, [], ◌∷◌, IfOk, OnOk, OnErr,
 ghost use Rattle.psci_fw.specs.psci_board.Board.{BoardValue};
 ghost use Rattle.psci_world_spec.specs.declared.said.Record.{Record};
 ghost use Rattle.psci_world_spec.specs.Legal.{legal, legal_record};
-ghost use Rattle.psci_machine.specs.Present.{IsPresent};
+ghost use Rattle.psci_machine.specs.Seen.{IsPresent};
 
 impl Present {
     /// The present of this board, before any event: the power controller is in its first life, the
@@ -72,9 +71,6 @@ impl Present {
         ensures memory { OnErr result (self.new ≡ self.old) }
     {
         self.machine.law();
-        law_histories();
-        law_messages();
-        law_sent();
         self.messages.reserve(1)?;
         self.acks.reserve(1)?;
         let said = self.machine.step(event, &self.messages, &self.acks);

@@ -1,29 +1,30 @@
 //! The power controller is asked: wake-ups, resets, and messages that it gets.
 
-ghost use Rattle.std.specs.Prelude.{◌≡◌, ◌<◌, ◌==◌, ℕ, List, Some, if◌then◌else◌, nat_lt};
-ghost use Rattle.std.specs.Prelude.{is_some, slice_get, unwrap_or};
-ghost use Rattle.psci_fw.specs.psci_board.Board.{cores};
+ghost use Rattle.std.specs.Prelude.{◌++◌, ◌<◌, ◌==◌, ◌≡◌, IfOk, if◌then◌else◌, is_some, IsOk};
+ghost use Rattle.std.specs.Prelude.{length, List, nat_lt, OnOk, replicate, slice_get, slice_set};
+ghost use Rattle.std.specs.Prelude.{Some, unwrap_or, vec_capacity, vec_len, ℕ};
 ghost use Rattle.psci_ctl.specs.Seen.{seen};
+ghost use Rattle.psci_ctl.specs.psci_ctl_spec.History.{IsOfBoard};
+ghost use Rattle.psci_ctl.specs.psci_ctl_spec.Replies.{message_effect, reply};
 ghost use Rattle.psci_ctl.specs.psci_ctl_spec.declared.call.CtlCall.TheVariants as calls;
 ghost use Rattle.psci_ctl.specs.psci_ctl_spec.declared.kick.Kick.TheVariants as kicks;
 ghost use Rattle.psci_ctl.specs.psci_ctl_spec.declared.reply.CtlReply.TheVariants as replies;
-ghost use Rattle.psci_ctl.specs.psci_ctl_spec.Effects.{message_effect};
-ghost use Rattle.psci_ctl.specs.psci_ctl_spec.Legal.{IsOfBoard};
-ghost use Rattle.psci_ctl.specs.psci_ctl_spec.Replies.{reply};
-ghost use Rattle.psci_fw.specs.psci_messages.declared.kind.Kind.TheVariants as kinds;
+ghost use Rattle.psci_fw.specs.psci_board.Board.{cores};
+ghost use Rattle.psci_fw.specs.psci_fw_spec.Effects.{listed};
 ghost use Rattle.psci_fw.specs.psci_messages.Message.{AckValue, MessageValue};
+ghost use Rattle.psci_fw.specs.psci_messages.declared.kind.Kind.TheVariants as kinds;
+ghost use Rattle.psci_machine.specs.Seen.{if_there, IsNext, machine_board, place_in, place_kicked};
+ghost use Rattle.psci_world_spec.specs.Legal.{ack_in, first_place, if_stopped, on_board};
+ghost use Rattle.psci_world_spec.specs.Legal.{place_after, place_of_effect, said_by, sent_in};
 ghost use Rattle.psci_world_spec.specs.declared.event.Event.TheVariants as events;
-ghost use Rattle.psci_world_spec.specs.declared.place.Place.TheVariants.{Started};
+ghost use Rattle.psci_world_spec.specs.declared.place.Place.TheVariants.{Started, Stopped};
 ghost use Rattle.psci_world_spec.specs.declared.said.Said.TheVariants as says;
-ghost use Rattle.psci_world_spec.specs.Legal.{if_stopped, on_board, said_by};
-ghost use Rattle.psci_world_spec.specs.Places.{place_of_effect};
-ghost use Rattle.psci_machine.specs.Next.{IsNext, if_there, place_kicked};
-ghost use Rattle.psci_machine.specs.Seen.{machine_board, place_in};
 
 use crate::machine::Machine;
-use crate::place::{begin_life, end_life};
-use psci_ctl::{Ack, Core, Delivery, Kick, Kind, Message};
+use psci_ctl::{Ack, Core, Delivery, Kick, Kind, Memory, Message};
+use psci_fw::Act;
 use psci_world_spec::{Place, Said};
+use std::alloc::Global;
 
 impl Machine {
     /// A core has a wake-up event: if it is stopped, the power controller may start it.
@@ -142,5 +143,75 @@ impl Machine {
                 None => end_life(&mut self.places),
             },
         }
+    }
+}
+
+// What the world keeps of what was said: each message and each acknowledgement.
+
+/// Keeps the message that was sent, if one was.
+pub fn keep_message(messages: &mut Vec<Message>, said: &Said) -> Result<(), Memory>
+    ensures room { vec_len messages.old < vec_capacity messages.old → IsOk result }
+    ensures items { OnOk result (messages.new.items
+        ≡ messages.old.items ++ listed (sent_in said.now)) }
+{
+    if let Said::Fw {
+        sent: Some(sent),
+        ..
+    } = said
+    {
+        messages.push(sent.message.copy())?;
+    }
+    Ok(())
+}
+
+/// Keeps the acknowledgement that was made, if one was.
+pub fn keep_ack(acks: &mut Vec<Ack>, said: &Said) -> Result<(), Memory>
+    ensures room { vec_len acks.old < vec_capacity acks.old → IsOk result }
+    ensures items { OnOk result (acks.new.items ≡ acks.old.items ++ listed (ack_in said.now)) }
+{
+    if let Said::Acked { ack, .. } = said {
+        acks.push(ack.copy())?;
+    }
+    Ok(())
+}
+
+// Where each core is, core by core.
+
+/// Where each of so many cores is, as a life begins.
+pub fn first_places(alloc: Global, cores: u16) -> Result<Vec<Place>, Memory>
+    ensures length { IfOk result (λ places. length places.items ≡ cores) }
+    ensures place { IfOk result (λ places. (c : ℕ) → c < cores
+        → place_in places.items c ≡ first_place c) }
+{
+    let mut places = vec![in alloc; Place::Stopped; cores as usize]?;
+    begin_life(&mut places);
+    Ok(places)
+}
+
+/// The boot core is started, and every other is stopped.
+pub fn begin_life(places: &mut [Place])
+    ensures length { length places.new ≡ length places.old }
+    ensures place { (c : ℕ) → c < length places.old → place_in places.new c ≡ first_place c }
+{
+    end_life(places);
+    if !places.is_empty() {
+        places[0] = Place::Started;
+    }
+}
+
+/// Every core is stopped.
+pub fn end_life(places: &mut [Place])
+    ensures { places.new ≡ replicate (length places.old) Stopped }
+{
+    places.fill(Place::Stopped);
+}
+
+/// Where a core is after this outcome.
+pub fn place_after(act: &Act) -> Place
+    ensures { result ≡ place_after act.now }
+{
+    match act {
+        Act::Stop => Place::Stopped,
+        _ => Place::Running,
     }
 }

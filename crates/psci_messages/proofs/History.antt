@@ -1,26 +1,30 @@
 -- Slots by look-up: what each change leaves in each slot, and that the slots hold what the history
 -- says, looked at backwards.
-use Rattle.std.proofs.Common.{◌≡◌, ℕ, zero, suc, ◌≤◌, true, List, [], ◌∷◌, length, get_or}
-use Rattle.std.proofs.Common.{replicate, Option, Some, None, refl, sym, ap, arith, length-set, ◌∙◌}
-use Rattle.std.proofs.Common.{Bool, false, subst, inl, inr}
-use Rattle.std.specs.Prelude.{if◌then◌else◌, slice_set, ◌&&◌, ◌||◌, is_none, option_and_then}
-use Rattle.std.proofs.lemmas.Bool.{eqb-true, eq-eqb, ne_eqb, true≢false, and_parts, cases_Bool}
-use Rattle.std.proofs.lemmas.Bool.{false_from_ne_true, and_left}
-use Rattle.std.proofs.lemmas.List.{get_or-set_other, get_or_past, length-replicate}
-use Rattle.psci_messages.specs.Message.{MessageValue, AckValue}
-use Rattle.psci_messages.specs.Slots.{SlotsValue, Slot, slot_of, is_slot, message_in, with_message}
-use Rattle.psci_messages.specs.Slots.{left_by, Change, after_change, changed, IsOfCores, is_kind}
-use Rattle.psci_messages.specs.Slots.{answers, is_done, after_all}
-use Rattle.psci_messages.specs.Slots.Slot.{OfCore, OfSystem}
-use Rattle.psci_messages.specs.Slots.Change.{Put, Clear, ClearAll, Acknowledge}
-use Rattle.psci_messages.specs.Outstanding.{IsChange, sent_by, last_message, changes_since}
-use Rattle.psci_messages.specs.Outstanding.{ends_message, outstanding, AreChanges}
-use Rattle.std.proofs.lemmas.Bool.Decides.{nat_tests}
 use Rattle.std.specs.List.{list_any}
-use Rattle.std.proofs.lemmas.Option.{same_Some, none-some, option_and_then_some}
-use Rattle.psci_board.specs.declared.node.Core.{Core}
+use Rattle.std.specs.Prelude.{◌&&◌, ◌==◌, ◌||◌, if◌then◌else◌, is_none, nat_le, nat_lt}
+use Rattle.std.specs.Prelude.{option_and_then, slice_get, slice_set}
+use Rattle.std.proofs.Common.{◌+◌, ◌<◌, ◌∙◌, ◌∷◌, ◌≡◌, ◌≤◌, [], add-one, ap, arith, Bool, false}
+use Rattle.std.proofs.Common.{get_or, inl, inr, length, length-set, List, None, Option, refl}
+use Rattle.std.proofs.Common.{replicate, Some, subst, suc, sym, true, zero, ℕ}
+use Rattle.std.proofs.lemmas.Bool.{and_from, and_left, and_parts, cases_Bool, eq-eqb, eqb-true}
+use Rattle.std.proofs.lemmas.Bool.{false_from_ne_true, le-leb, leb-true, lt-ltb, ltb-true}
+use Rattle.std.proofs.lemmas.Bool.{ne_eqb, true≢false}
+use Rattle.std.proofs.lemmas.Bool.Decides.{nat_tests}
+use Rattle.std.proofs.lemmas.List.{get_or-set_other, get_or_past, length-replicate}
+use Rattle.std.proofs.lemmas.Option.{none-some, option_and_then_some, same_Some}
+use Rattle.psci_board.specs.declared.draft.Core.{Core}
+use Rattle.psci_messages.specs.Message.{AckValue, AreClaims, is_climbing, is_falling}
+use Rattle.psci_messages.specs.Message.{MessageValue, PartByPart}
+use Rattle.psci_messages.specs.Outstanding.{AreChanges, changes_since, ends_message, IsChange}
+use Rattle.psci_messages.specs.Outstanding.{last_message, outstanding, sent_by}
+use Rattle.psci_messages.specs.Slots.{after_all, after_change, answers, Change, changed, is_done}
+use Rattle.psci_messages.specs.Slots.{is_kind, is_slot, IsOfCores, left_by, message_in, Slot}
+use Rattle.psci_messages.specs.Slots.{slot_of, SlotsValue, with_message}
+use Rattle.psci_messages.specs.Slots.Change.{Acknowledge, Clear, ClearAll, Put}
+use Rattle.psci_messages.specs.Slots.Slot.{OfCore, OfSystem}
 use Rattle.psci_messages.specs.declared.kind.Kind.{Kind}
-use Rattle.psci_messages.specs.declared.kind.Kind.TheVariants.{Down, Start, Off, Reset}
+use Rattle.psci_messages.specs.declared.kind.Kind.TheVariants.{Down, Off, Reset, Start}
+use Rattle.psci_messages.specs.declared.part.Part.{Part}
 
 -- What each change leaves -------------------------------------------------------------------------
 
@@ -227,3 +231,99 @@ look-after_all cores (change ∷ changes) are slot =
     look-after (after_all cores changes) change here slot
     ∙ (ap (changed slot change) (look-after_all cores changes are.1 slot)
     ∙ sym (outstanding-step slot change changes))
+
+-- Part levels -------------------------------------------------------------------------------------
+-- Claims part by part: levels that count up and depths that fall, what two tests say of a list of
+-- parts, and what facts about each part say.
+
+-- the level of the part of this number
+pub level-of : (n : ℕ) (ps : List Part) (k : ℕ) (d : Part) → is_climbing n ps ≡ true → k < length ps
+    → (get_or ps k d).level ≡ n + k
+level-of n [] k d climbs h = absurd (omega arith)
+level-of n (p ∷ ps) zero d climbs h = grind (arith, nat_tests, and_parts, eqb-true)
+level-of n (p ∷ ps) (suc k) d climbs h =
+    grind (arith, nat_tests, and_parts, level-of (n + 1) ps k d)
+
+-- From each part to the tests.
+climbing-from : (n : ℕ) (ps : List Part)
+    → ((k : ℕ) (p : Part) → slice_get ps k ≡ Some p → p.level ≡ n + k) → is_climbing n ps ≡ true
+climbing-from n [] each = refl
+climbing-from n (p ∷ ps) each =
+    and_from (p.level == n) (is_climbing (n + 1) ps)
+    (eq-eqb p.level n (omega (arith, each 0 p refl)))
+    (climbing-from (n + 1) ps (λ k q at. omega (arith, each (suc k) q at)))
+
+falling-from : (most : ℕ) (ps : List Part)
+    → ((k : ℕ) (p : Part) → slice_get ps k ≡ Some p → 0 < p.depth)
+    → ((p : Part) → slice_get ps 0 ≡ Some p → p.depth ≤ most)
+    → ((k : ℕ) (p q : Part) → slice_get ps k ≡ Some p → slice_get ps (suc k) ≡ Some q
+    → q.depth ≤ p.depth)
+    → is_falling most ps ≡ true
+falling-from most [] some first falls = refl
+falling-from most (p ∷ ps) some first falls =
+    and_from (nat_lt 0 p.depth && nat_le p.depth most) (is_falling p.depth ps)
+    (and_from (nat_lt 0 p.depth) (nat_le p.depth most) (lt-ltb 0 p.depth (some 0 p refl))
+    (le-leb p.depth most (first p refl)))
+    (falling-from p.depth ps (λ k q at. some (suc k) q at) (λ q at. falls 0 p q refl at)
+    (λ k q r at next. falls (suc k) q r at next))
+
+-- From the tests to each part.
+level-at : (n : ℕ) (ps : List Part) → is_climbing n ps ≡ true
+    → (k : ℕ) (p : Part) → slice_get ps k ≡ Some p → p.level ≡ n + k
+level-at n [] climbs k p at = absurd (none-some p at)
+level-at n (q ∷ ps) climbs zero p at = grind (arith, nat_tests, and_parts, same_Some, eqb-true)
+level-at n (q ∷ ps) climbs (suc k) p at = grind (arith, nat_tests, and_parts, level-at (n + 1) ps)
+
+-- the first depth is bounded, and the parts after it fall from there
+record Falls (most : ℕ) (p : Part) (ps : List Part) : Type 0 where
+  pub some : 0 < p.depth
+  pub bound : p.depth ≤ most
+  pub rest : is_falling p.depth ps ≡ true
+
+falls-from : (most : ℕ) (p : Part) (ps : List Part) → is_falling most (p ∷ ps) ≡ true
+    → Falls most p ps
+falls-from most p ps e =
+    let both = and_parts (nat_lt 0 p.depth && nat_le p.depth most) (is_falling p.depth ps) e in
+    let ends = and_parts (nat_lt 0 p.depth) (nat_le p.depth most) both.0 in
+    record { some = ltb-true 0 p.depth ends.0; bound = leb-true p.depth most ends.1; rest = both.1 }
+
+depth-at : (most : ℕ) (ps : List Part) → is_falling most ps ≡ true
+    → (k : ℕ) (p : Part) → slice_get ps k ≡ Some p → (0 < p.depth) × (p.depth ≤ most)
+depth-at most [] falls k p at = absurd (none-some p at)
+depth-at most (q ∷ ps) falls zero p at =
+    let first = falls-from most q ps falls in
+    let same : q.depth ≡ p.depth = ap (λ (x : Part). x.depth) (same_Some q p at) in
+    (omega (arith, first.some, same), omega (arith, first.bound, same))
+depth-at most (q ∷ ps) falls (suc k) p at =
+    let first = falls-from most q ps falls in
+    let rest = depth-at q.depth ps first.rest k p at in
+    (rest.0, omega (arith, rest.1, first.bound))
+
+falls-at : (most : ℕ) (ps : List Part) → is_falling most ps ≡ true
+    → (k : ℕ) (p q : Part) → slice_get ps k ≡ Some p → slice_get ps (suc k) ≡ Some q
+    → q.depth ≤ p.depth
+falls-at most [] falls k p q at next = absurd (none-some p at)
+falls-at most (r ∷ ps) falls zero p q at next =
+    grind (arith, nat_tests, falls-from, same_Some, depth-at)
+falls-at most (r ∷ ps) falls (suc k) p q at next =
+    falls-at r.depth ps (falls-from most r ps falls).rest k p q at next
+
+-- The law.
+pub claim-from : (ps : List Part) → PartByPart ps → AreClaims ps
+claim-from ps each = record {
+  some = each.some;
+  most = each.most;
+  levels = climbing-from 0 ps (λ k p at. omega (arith, each.level k p at));
+  depths = falling-from 3 ps each.least (λ p at. each.deepest 0 p at)
+      (λ k p q at next. each.falls k p q at (rw add-one next));
+}
+
+pub part-by-part : (ps : List Part) → AreClaims ps → PartByPart ps
+part-by-part ps claim = record {
+  some = claim.some;
+  most = claim.most;
+  level = λ k p at. omega (arith, level-at 0 ps claim.levels k p at);
+  least = λ k p at. (depth-at 3 ps claim.depths k p at).0;
+  deepest = λ k p at. (depth-at 3 ps claim.depths k p at).1;
+  falls = λ k p q at next. falls-at 3 ps claim.depths k p q at (rw add-one at next);
+}

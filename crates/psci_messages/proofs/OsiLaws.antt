@@ -1,19 +1,19 @@
 -- What is counted over the cores below a domain, and what holds of the claims of OS-initiated mode.
-use Rattle.std.proofs.Common.{◌≡◌, ℕ, zero, suc, ◌+◌, ◌<◌, ◌≤◌, Bool, true, false, List, length}
-use Rattle.std.proofs.Common.{filter, refl, ◌∙◌, arith, inl, inr, true≢false, get_or, Some}
+use Rattle.std.proofs.Common.{◌+◌, ◌<◌, ◌∙◌, ◌≡◌, ◌≤◌, arith, Bool, false, filter, get_or, inl}
+use Rattle.std.proofs.Common.{inr, length, List, refl, Some, suc, true, true≢false, zero, ℕ}
 use Rattle.std.specs.Prelude.{slice_index, slice_get}
 use Rattle.std.specs.List.{list_all, range_with_len}
 use Rattle.std.proofs.lemmas.Bool.{cases_eq, cases_lt, eq-eqb, eqb-true}
 use Rattle.std.proofs.lemmas.Option.{slice_get-get_or}
 use Rattle.std.proofs.Math.Nat.{eq-zero-or-pos}
 use Rattle.psci_board.specs.Board.{BoardValue, cores, up}
-use Rattle.psci_state.specs.Ask.{IsAsk}
+use Rattle.psci_state.specs.PowerState.{IsAsk}
 use Rattle.psci_messages.specs.declared.part.Part.{Part}
 use Rattle.psci_messages.specs.View.{PowerView, domain_of, is_all_away}
-use Rattle.psci_messages.specs.Claim.{own_claims, own_wish, off_claims, off_wish}
-use Rattle.psci_messages.specs.Laws.{OwnLaws, OffLaws, BelowLaws}
-use Rattle.psci_messages.proofs.ClaimLaws.{claim_laws, least_ask-most, least_ask-below}
-use Rattle.psci_messages.proofs.ClaimLaws.{least_ask-above}
+use Rattle.psci_messages.specs.Claim.{BelowLaws, off_claims, off_wish, OffLaws, own_claims}
+use Rattle.psci_messages.specs.Claim.{own_wish, OwnLaws}
+use Rattle.psci_messages.proofs.ClaimLaws.{claim_laws, least_ask-above, least_ask-below}
+use Rattle.psci_messages.proofs.ClaimLaws.{least_ask-most}
 use Rattle.std.proofs.lemmas.Bool.Decides.{nat_tests}
 
 -- All and some of the cores below ----------------------------------------------------------------

@@ -1,19 +1,208 @@
 -- Words of slots, slot by slot.
-use Rattle.std.proofs.Common.{◌≡◌, ℕ, suc, ◌+◌, ◌-◌, ◌*◌, ◌<◌}
-use Rattle.std.proofs.Common.{◌≤◌, ◌&&◌, Bool, true, false, List, [], ◌∷◌}
-use Rattle.std.proofs.Common.{◌++◌, length, take, drop, set, get_or}
-use Rattle.std.proofs.Common.{flat_map, Option, None, refl, ap, sym}
-use Rattle.std.proofs.Common.{◌∙◌, arith, append_assoc}
-use Rattle.std.proofs.lemmas.Bool.{and_parts, eqb-true}
+use Rattle.std.proofs.Common.{◌&&◌, ◌*◌, ◌++◌, ◌+◌, ◌-◌, ◌<◌, ◌==◌, ◌^◌, ◌∙◌, ◌∷◌, ◌≡◌, ◌≤◌, []}
+use Rattle.std.proofs.Common.{ap, append_assoc, arith, Bool, drop, false, flat_map, get_or, inl}
+use Rattle.std.proofs.Common.{inr, length, List, None, Option, refl, set, suc, sym, take, true}
+use Rattle.std.proofs.Common.{zero, ℕ}
+use Rattle.std.proofs.lemmas.Bool.{and_parts, eqb-true, false≢true, leb-true, ltb-true, or_cases}
 use Rattle.std.proofs.lemmas.Grind.{flat_map-append}
-use Rattle.std.proofs.lemmas.List.{append-nil, take-append-drop, take_all, take_more}
-use Rattle.std.proofs.lemmas.List.{take_more_set}
+use Rattle.std.proofs.lemmas.List.{append-nil, length-append, take-append-drop, take_all}
+use Rattle.std.proofs.lemmas.List.{take_more, take_more_set}
 use Rattle.std.proofs.lemmas.List.Concat.{flat_map-cons}
-use Rattle.psci_messages.specs.Message.{MessageValue}
-use Rattle.psci_messages.specs.Saved.{are_slots, is_slot, slot_words, slots_words}
+use Rattle.psci_messages.specs.Message.{ArePartsOf, MessageValue}
+use Rattle.psci_messages.specs.Saved.{are_parts, are_parts_of, are_slots, AreOfMessage, is_empty}
+use Rattle.psci_messages.specs.Saved.{is_message, is_part, is_slot, kind_number, kind_of}
+use Rattle.psci_messages.specs.Saved.{part_words, parts_from, slot_words, slots_words}
 use Rattle.psci_messages.specs.Slots.{SlotsValue}
-use Rattle.psci_messages.proofs.SavedMessages.{slot_long}
-use Rattle.psci_messages.proofs.SavedWords.{many_words}
+use Rattle.psci_messages.specs.declared.kind.Kind.TheVariants as kinds
+use Rattle.psci_messages.specs.declared.part.Part.{Part}
+use Rattle.psci_messages.proofs.SavedLaws.{climbing, falling, few_parts, IsPair, many_words}
+use Rattle.psci_messages.proofs.SavedLaws.{no_parts, one_part, pair, parts_back, some_parts}
+use Rattle.psci_messages.proofs.SavedLaws.{weaker}
+
+-- The words of a message and of a slot, taken apart -----------------------------------------------
+
+-- Messages -----------------------------------------------------------------------------------
+
+-- what the words of parts say of a kind
+pub record AreOfKind (kind : ℕ) (ws : List ℕ) : Type 0 where
+  pub count : length ws ≡ 8
+  pub deep : are_parts 3 ws ≡ true
+  pub words : part_words 4 (parts_from 0 ws) ≡ ws
+  pub number : kind_number (kind_of kind) ≡ kind
+  pub parts : ArePartsOf (kind_of kind) (parts_from 0 ws)
+
+claims : (ws : List ℕ) → length ws ≡ 8 → are_parts 3 ws ≡ true → 0 < get_or ws 0 0
+    → ArePartsOf kinds.Down (parts_from 0 ws)
+claims ws c h s = record {
+  some = some_parts ws c s;
+  most = few_parts 0 4 ws (omega (arith, c));
+  levels = climbing 0 ws;
+  depths = falling 0 3 ws h;
+}
+
+record AreNone (ws : List ℕ) : Type 0 where
+  count : length ws ≡ 8
+  deep : are_parts 3 ws ≡ true
+  words : part_words 4 (parts_from 0 ws) ≡ ws
+  none : parts_from 0 ws ≡ []
+
+no_claims : (ws : List ℕ) → (length ws == 8 && are_parts 0 ws) ≡ true → AreNone ws
+no_claims ws h =
+    let both = and_parts _ _ h in
+    let count = eqb-true (length ws) 8 both.0 in
+    record {
+      count = count;
+      deep = weaker 0 3 ws (omega arith) both.1;
+      words = parts_back 4 0 0 ws (omega (arith, count)) both.1;
+      none = no_parts 0 ws both.1;
+    }
+
+pub of_kind : (kind : ℕ) (ws : List ℕ) → 0 < kind → kind ≤ 4 → are_parts_of kind ws ≡ true
+    → AreOfKind kind ws
+of_kind zero ws low high h = absurd (omega (arith, low))
+of_kind (suc zero) ws low high h =
+    let both = and_parts _ _ h in
+    let count = eqb-true _ _ both.0 in
+    let more = and_parts _ _ both.1 in
+    record {
+      count = count;
+      deep = more.0;
+      words = parts_back 4 0 3 ws (omega (arith, count)) more.0;
+      number = refl;
+      parts = claims ws count more.0 (ltb-true 0 _ more.1);
+    }
+of_kind (suc (suc zero)) ws low high h =
+    let is = no_claims ws h in
+    record { count = is.count; deep = is.deep; words = is.words; number = refl; parts = is.none }
+of_kind (suc (suc (suc zero))) ws low high h =
+    let is = no_claims ws h in
+    record { count = is.count; deep = is.deep; words = is.words; number = refl; parts = is.none }
+of_kind (suc (suc (suc (suc zero)))) ws low high h =
+    let is = no_claims ws h in
+    record { count = is.count; deep = is.deep; words = is.words; number = refl; parts = is.none }
+of_kind (suc (suc (suc (suc (suc n))))) ws low high h = absurd (omega (arith, high))
+
+-- words of a slot that begin with a kind are those of a message
+pub of_message : (k c l n : ℕ) (ws : List ℕ) → is_slot (k ∷ c ∷ l ∷ n ∷ ws) ≡ true → (k ≡ 0 → ⊥)
+    → AreOfMessage k c l n ws
+of_message k c l n ws h some =
+    elim (or_cases (is_empty (k ∷ c ∷ l ∷ n ∷ ws)) (is_message (k ∷ c ∷ l ∷ n ∷ ws)) h) [
+      | inl e ↦ absurd (some (eqb-true k 0 (and_parts _ _ (and_parts _ _ e).1).0))
+      | inr e ↦
+          let both = and_parts _ _ e in
+          let kind = and_parts _ _ both.0 in
+          let more = and_parts _ _ both.1 in
+          let numbers = and_parts _ _ more.0 in
+          let counted = and_parts _ _ numbers.1 in
+          record {
+            least = ltb-true 0 k kind.0;
+            most = leb-true k 4 kind.1;
+            core = ltb-true c 256 numbers.0;
+            life = ltb-true l (2 ^ 32) counted.0;
+            number = ltb-true n (2 ^ 32) counted.1;
+            parts = more.1;
+          }
+    ]
+
+-- a slot has 12 words
+pub slot_long : (ws : List ℕ) → is_slot ws ≡ true → length ws ≡ 12
+slot_long ws h = elim (or_cases (is_empty ws) (is_message ws) h) [
+  | inl e ↦ eqb-true (length ws) 12 (and_parts _ _ e).0
+  | inr e ↦ message_long ws e
+]
+  where
+    message_long : (ws : List ℕ) → is_message ws ≡ true → length ws ≡ 12
+    message_long [] e = absurd (false≢true e)
+    message_long (k ∷ []) e = absurd (false≢true e)
+    message_long (k ∷ c ∷ []) e = absurd (false≢true e)
+    message_long (k ∷ c ∷ l ∷ []) e = absurd (false≢true e)
+    message_long (k ∷ c ∷ l ∷ n ∷ ws) e = omega (
+      arith,
+      eqb-true (length ws) 8 (and_parts _ _ (and_parts _ _ (and_parts _ _ e).1).1).0,
+    )
+
+-- The first words of a slice, and what they say of the rest ---------------------------------------
+
+-- the words behind the first two, and behind the first four
+abbrev pub after_two : List ℕ → List ℕ
+after_two ws = take (length ws - 2) (drop 2 ws)
+
+abbrev pub after_four : List ℕ → List ℕ
+after_four ws = take (length ws - 4) (drop 4 ws)
+
+pub two_first : (ws : List ℕ) → 2 ≤ length ws → get_or ws 0 0 ∷ get_or ws 1 0 ∷ after_two ws ≡ ws
+two_first [] h = absurd (omega (arith, h))
+two_first (a ∷ []) h = absurd (omega (arith, h))
+two_first (a ∷ b ∷ ws) h =
+    ap (λ xs. a ∷ b ∷ xs) (take_all (length (a ∷ b ∷ ws) - 2) ws (omega arith))
+
+pub four_first : (ws : List ℕ) → 4 ≤ length ws
+    → get_or ws 0 0 ∷ get_or ws 1 0 ∷ get_or ws 2 0 ∷ get_or ws 3 0 ∷ after_four ws ≡ ws
+four_first [] h = absurd (omega (arith, h))
+four_first (a ∷ []) h = absurd (omega (arith, h))
+four_first (a ∷ b ∷ []) h = absurd (omega (arith, h))
+four_first (a ∷ b ∷ c ∷ []) h = absurd (omega (arith, h))
+four_first (a ∷ b ∷ c ∷ d ∷ ws) h =
+    ap (λ xs. a ∷ b ∷ c ∷ d ∷ xs) (take_all (length (a ∷ b ∷ c ∷ d ∷ ws) - 4) ws (omega arith))
+
+-- Parts --------------------------------------------------------------------------------------
+
+pub parts_by : (most : ℕ) (ws : List ℕ) → 2 ≤ length ws
+    → are_parts most ws
+    ≡ (is_part most (get_or ws 0 0) (get_or ws 1 0) && are_parts (get_or ws 0 0) (after_two ws))
+parts_by most ws h = ap (λ xs. are_parts most xs) (sym (two_first ws h))
+
+pub rest_long : (ws : List ℕ) → 2 ≤ length ws → length (after_two ws) + 2 ≡ length ws
+rest_long ws h =
+    let is : length (get_or ws 0 0 ∷ get_or ws 1 0 ∷ after_two ws) ≡ length ws =
+    ap (λ (xs : List ℕ). length xs) (two_first ws h) in
+    omega (arith, is)
+
+pub pair_at : (most : ℕ) (ws : List ℕ) → 2 ≤ length ws → are_parts most ws ≡ true
+    → IsPair most (get_or ws 0 0) (get_or ws 1 0) (after_two ws)
+pair_at most ws h is =
+    pair most (get_or ws 0 0) (get_or ws 1 0) (after_two ws)
+    (ap (λ xs. are_parts most xs) (two_first ws h) ∙ is)
+
+pub pushed_long : (ps qs : List Part) (p : Part) → qs ≡ ps ++ p ∷ [] → length qs ≡ length ps + 1
+pushed_long ps qs p e = ap (λ (xs : List Part). length xs) e ∙ length-append ps (p ∷ [])
+
+-- a part is added, and then those behind it
+pub parts_added : (ps qs new : List Part) (ws : List ℕ) → 2 ≤ length ws
+    → (get_or ws 0 0 ≡ 0 → ⊥)
+    → qs ≡ ps ++ record {
+      level = length ps;
+      depth = get_or ws 0 0;
+      generation = get_or ws 1 0;
+    } ∷ []
+    → new ≡ qs ++ parts_from (length qs) (after_two ws)
+    → new ≡ ps ++ parts_from (length ps) ws
+parts_added ps qs new ws h some first rest =
+    let part : Part = record {
+      level = length ps;
+      depth = get_or ws 0 0;
+      generation = get_or ws 1 0;
+    } in
+    let long : length qs ≡ length ps + 1 =
+    ap (λ (xs : List Part). length xs) first ∙ length-append ps (part ∷ []) in
+    rest
+    ∙ ap (λ n. qs ++ parts_from n (after_two ws)) long
+    ∙ ap (λ xs. xs ++ parts_from (length ps + 1) (after_two ws)) first
+    ∙ append_assoc ps (part ∷ []) (parts_from (length ps + 1) (after_two ws))
+    ∙ ap (λ xs. ps ++ xs)
+    (sym (one_part (length ps) (get_or ws 0 0) (get_or ws 1 0) (after_two ws) some)
+    ∙ ap (λ xs. parts_from (length ps) xs) (two_first ws h))
+
+-- Messages -----------------------------------------------------------------------------------
+
+pub of_message_at : (ws : List ℕ) → is_slot ws ≡ true → 4 ≤ length ws → (get_or ws 0 0 ≡ 0 → ⊥)
+    → AreOfMessage (get_or ws 0 0) (get_or ws 1 0) (get_or ws 2 0) (get_or ws 3 0)
+    (after_four ws)
+of_message_at ws is h some =
+    of_message (get_or ws 0 0) (get_or ws 1 0) (get_or ws 2 0) (get_or ws 3 0) (after_four ws)
+    (ap is_slot (four_first ws h) ∙ is) some
+
+-- Saved slots -------------------------------------------------------------------------------------
 
 -- one slot is looked at, and so many are left
 pub more_slots : (m count : ℕ) (rest words own others : List ℕ) → own ≡ take 12 rest

@@ -1,12 +1,13 @@
 -- What contracts see of a message and of an acknowledgement, and what holds of each.
-use Rattle.std.specs.Prelude.{◌≡◌, ℕ, ◌+◌, ◌<◌, ◌≤◌, Bool, true, List, [], ◌∷◌, length, ◌&&◌, ◌==◌}
-use Rattle.std.specs.Prelude.{nat_lt, nat_le, slice_get, Some}
-use Rattle.psci_board.specs.declared.node.Core.{Core}
-use Rattle.psci_state.specs.Ask.{power_down}
+use Rattle.std.specs.Prelude.{◌&&◌, ◌+◌, ◌<◌, ◌==◌, ◌∷◌, ◌≡◌, ◌≤◌, [], Bool, codes, false}
+use Rattle.std.specs.Prelude.{length, List, nat_le, nat_lt, None, Option, slice_get, Some, true}
+use Rattle.std.specs.Prelude.{ℕ}
+use Rattle.psci_board.specs.declared.draft.Core.{Core}
+use Rattle.psci_state.specs.PowerState.{power_down}
+use Rattle.psci_messages.specs.declared.kind.Kind.{Kind}
+use Rattle.psci_messages.specs.declared.kind.Kind.TheVariants.{Down, Off, Reset, Start}
 use Rattle.psci_messages.specs.declared.part.Part.{Part}
 use Rattle.psci_messages.specs.declared.parts.TheConstants.{MOST_PARTS}
-use Rattle.psci_messages.specs.declared.kind.Kind.{Kind}
-use Rattle.psci_messages.specs.declared.kind.Kind.TheVariants.{Down, Start, Off, Reset}
 
 -- a message, as contracts see it
 pub record MessageValue : Type 0 where
@@ -90,3 +91,17 @@ pub record IsAck (a : AckValue) : Type 0 where
   -- one byte
   pub core : a.core.number < 256
   pub applied : a.applied ≤ most_applied a.kind
+
+-- What an exchange of a history says only where a test holds --------------------------------------
+
+-- what is said, where the test holds
+abbrev pub only_if : {A : Type 0} → Bool → Option A → Option A
+only_if true o = o
+only_if false o = None
+
+-- How output spells that a message was out of date ------------------------------------------------
+
+-- nothing, or that it was stale
+abbrev pub stale_text : Bool → List ℕ
+stale_text true = codes " stale"
+stale_text false = []

@@ -1,12 +1,35 @@
 -- Which message is outstanding after a history of changes, the last change first: the last message
 -- that was sent, unless something since then has ended it.
-use Rattle.std.specs.Prelude.{ℕ, Bool, true, false, ◌&&◌, List, [], ◌∷◌, if◌then◌else◌, Option}
-use Rattle.std.specs.Prelude.{Some, None, option_and_then, is_none}
-use Rattle.std.specs.List.{list_any, AllByRecursion}
+use Rattle.std.specs.Borrow.{Lends}
+use Rattle.std.specs.List.{AllByRecursion, list_any}
+use Rattle.std.specs.Prelude.{◌&&◌, ◌∷◌, [], Bool, false, if◌then◌else◌, is_none, List, None}
+use Rattle.std.specs.Prelude.{Option, option_and_then, Some, true, ℕ}
+use base.Fml.{Fml}
+use denote.Ref.{MutBor}
 use Rattle.psci_messages.specs.Message.{MessageValue}
-use Rattle.psci_messages.specs.Slots.{Slot, slot_of, is_slot, answers, is_done, Change, IsOfCores}
+use Rattle.psci_messages.specs.Slots.{answers, Change, is_done, is_slot, IsOfCores, Slot}
+use Rattle.psci_messages.specs.Slots.{slot_of, SlotsValue, with_message}
+use Rattle.psci_messages.specs.Slots.Change.{Acknowledge, Clear, ClearAll, Put}
 use Rattle.psci_messages.specs.Slots.Slot.{OfCore}
-use Rattle.psci_messages.specs.Slots.Change.{Put, Clear, ClearAll, Acknowledge}
+use Rattle.psci_messages.specs.contracts.message.Message as Message
+use Rattle.psci_messages.specs.contracts.slot.Slot as Slot
+use Rattle.psci_messages.specs.contracts.slots.Slots as Slots
+
+-- What becomes of a slot while its message is lent to be written over -----------------------------
+
+-- the slot ends with the message that was last written through the borrow
+abbrev pub LendsFilled : MutBor (Option MessageValue) → MutBor MessageValue → Fml
+LendsFilled s r = Lends Slot.the_row Message.the_row s r (λ m. Some m)
+
+-- the slots once this message was written into that of a core
+abbrev pub with_lent : SlotsValue → ℕ → MessageValue → SlotsValue
+with_lent s core m = with_message s (OfCore core) (Some m)
+
+-- the slot of a core ends with the message that was last written through the borrow
+abbrev pub LendsOfCore : MutBor SlotsValue → ℕ → MutBor MessageValue → Fml
+LendsOfCore s core r = Lends Slots.the_row Message.the_row s r (with_lent s.now core)
+
+-- Outstanding -------------------------------------------------------------------------------------
 
 -- the message that a change sends to a slot
 abbrev pub sent_by : Slot → Change → Option MessageValue

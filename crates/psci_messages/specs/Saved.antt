@@ -1,10 +1,10 @@
 -- Outstanding messages as words of 64 bits, and which words are those of some messages.
-use Rattle.std.specs.Prelude.{◌≡◌, ℕ, zero, suc, ◌+◌, ◌<◌, ◌≤◌, ◌^◌, ◌==◌, ◌||◌, ◌&&◌, not, Bool}
-use Rattle.std.specs.Prelude.{true, false, nat_lt, nat_le, if◌then◌else◌, List, [], ◌∷◌, length}
-use Rattle.std.specs.Prelude.{take, drop, flat_map, replicate, slice_index, slice_index_or, Option}
-use Rattle.std.specs.Prelude.{None, Some}
+use Rattle.std.specs.Prelude.{◌&&◌, ◌+◌, ◌<◌, ◌==◌, ◌^◌, ◌||◌, ◌∷◌, ◌≡◌, ◌≤◌, [], Bool, drop}
+use Rattle.std.specs.Prelude.{false, flat_map, if◌then◌else◌, length, List, nat_le, nat_lt, None}
+use Rattle.std.specs.Prelude.{not, Option, replicate, slice_index, slice_index_or, Some, suc}
+use Rattle.std.specs.Prelude.{take, true, zero, ℕ}
 use Rattle.std.specs.List.{list_all}
-use Rattle.psci_state.specs.Ask.{power_down}
+use Rattle.psci_state.specs.PowerState.{power_down}
 use Rattle.psci_messages.specs.declared.kind.Kind.{Kind}
 use Rattle.psci_messages.specs.declared.kind.Kind.TheVariants.{Down, Start, Off, Reset}
 use Rattle.psci_messages.specs.declared.part.Part.{Part}

@@ -1,10 +1,10 @@
 -- What is known of cores and power domains when a core stops, and what is counted below a domain.
 use Rattle.std.specs.Prelude.{ℕ, Bool, not, map}
 use Rattle.std.specs.List.{sum_by, list_all}
-use Rattle.psci_board.specs.declared.node.Node.{Node}
+use Rattle.psci_board.specs.declared.draft.Node.{Node}
 use Rattle.psci_board.specs.Board.{BoardValue, below}
 pub use Rattle.psci_board.specs.Board.{domain_of}
-use Rattle.psci_state.specs.Ask.{least}
+use Rattle.psci_state.specs.PowerState.{least}
 
 -- What a claim is made from. Cores go by their numbers, domains by their levels and places.
 pub record PowerView : Type 0 where

@@ -4,10 +4,10 @@
 
 ghost use Rattle.std.specs.Prelude.{ℕ, ◌<◌, List};
 ghost use Rattle.psci_board.specs.Board.{BoardValue, IsBoard, cores};
-ghost use Rattle.psci_state.specs.Ask.{IsAsk};
+ghost use Rattle.psci_state.specs.PowerState.{IsAsk};
 ghost use Rattle.psci_messages.specs.View.{PowerView};
-ghost use Rattle.psci_messages.specs.Laws.{BelowLaws, ClaimLaws, PlatformLaws, OwnLaws, OffLaws};
-ghost use Rattle.psci_messages.specs.Laws.{LastCoreLaws};
+ghost use Rattle.psci_messages.specs.Claim.{BelowLaws, ClaimLaws, LastCoreLaws, OffLaws, OwnLaws};
+ghost use Rattle.psci_messages.specs.Claim.{PlatformLaws};
 
 use psci_board::{law_children, law_paths};
 
@@ -52,7 +52,7 @@ pub fn law_off()
 /// An OS-initiated request that is accepted asks no more of a domain than each other core below it
 /// asks of itself, provided that no domain is granted more than the one below it on a path, nor
 /// than a core below asks of itself.
-#[tactic(auto, using(crate::proofs::Accepted::last_core_laws))]
+#[tactic(auto, using(crate::proofs::ClaimLaws::last_core_laws))]
 pub fn law_last_core()
     ensures { (b : BoardValue) (v : PowerView) (core : ℕ) (ask : List ℕ) → IsBoard b
         → core < cores b → LastCoreLaws b v core ask }

@@ -4,8 +4,8 @@
 ghost use Rattle.std.specs.Prelude.{◌≡◌, ℕ, List, ◌∷◌, Some, true, length};
 ghost use Rattle.psci_messages.specs.declared.part.Part.{Part};
 ghost use Rattle.psci_messages.specs.Message.{MessageValue, AreClaims, PartByPart};
-ghost use Rattle.psci_messages.specs.Slots.{SlotsValue, Slot, slot_of, is_slot, message_in, Change};
-ghost use Rattle.psci_messages.specs.Slots.{after_change, after_all, changed};
+ghost use Rattle.psci_messages.specs.Slots.{after_all, after_change, Change, changed, is_slot};
+ghost use Rattle.psci_messages.specs.Slots.{message_in, Slot, slot_of, SlotsValue};
 ghost use Rattle.psci_messages.specs.Outstanding.{outstanding, IsChange, AreChanges};
 
 /// A list of parts is a claim exactly where each of its parts is as it should be.

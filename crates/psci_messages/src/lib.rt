@@ -43,5 +43,5 @@ pub use saving::{SLOT_WORDS, write};
 pub use slot_words::are_slots;
 pub use slots::Slots;
 pub use start::{Cause, Start};
-pub use sum::{FACTOR, law_sum, sum_of};
+pub use sum::{FACTOR, sum_of};
 pub use taken::Taken;

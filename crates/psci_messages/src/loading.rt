@@ -1,7 +1,7 @@
 //! Words, as they are loaded into the slots of outstanding messages.
 
 ghost use Rattle.std.specs.Prelude.{◌≡◌, ◌++◌, ◌+◌, ◌≤◌, ◌∷◌, true, flat_map, length};
-ghost use Rattle.psci_messages.specs.Saved.{AreOfMessage, are_parts, are_parts_of, are_slots};
+ghost use Rattle.psci_messages.specs.Saved.{are_parts, are_parts_of, are_slots, AreOfMessage};
 ghost use Rattle.psci_messages.specs.Saved.{is_slot, kind_of, message_words, parts_from};
 ghost use Rattle.psci_messages.specs.Saved.{slot_words};
 

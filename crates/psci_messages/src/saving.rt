@@ -1,7 +1,7 @@
 //! Outstanding messages as words, one behind the other.
 
-ghost use Rattle.std.specs.Prelude.{◌≡◌, ℕ, ◌≤◌, ◌+◌, ◌*◌, ◌++◌, None, Some, flat_map, length};
-ghost use Rattle.std.specs.Prelude.{slice_index_or, take};
+ghost use Rattle.std.specs.Prelude.{◌*◌, ◌++◌, ◌+◌, ◌≡◌, ◌≤◌, flat_map, length, None};
+ghost use Rattle.std.specs.Prelude.{slice_index_or, Some, take, ℕ};
 ghost use Rattle.psci_messages.specs.Message.{MessageValue};
 ghost use Rattle.psci_messages.specs.Saved.{IsKept, kind_number, message_words, slot_words};
 
@@ -58,7 +58,7 @@ fn words_of(slot: &Slot) -> [u64; SLOT_WORDS]
 }
 
 /// A message as words.
-#[tactic(auto, using(crate::proofs::SavedWords::four_places))]
+#[tactic(auto, using(crate::proofs::SavedLaws::four_places))]
 fn message_words(message: &Message) -> [u64; SLOT_WORDS]
     ensures words { result ≡ message_words message.now }
     ensures kept { IsKept message.now }

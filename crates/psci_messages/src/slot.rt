@@ -25,7 +25,7 @@ impl Model for Slot {
 
 ghost use Rattle.std.specs.Prelude.{◌≡◌, None, Some, option_map};
 ghost use Rattle.std.specs.Borrow.{sem};
-ghost use Rattle.psci_messages.specs.Lending.{LendsFilled};
+ghost use Rattle.psci_messages.specs.Outstanding.{LendsFilled};
 
 impl Slot {
     /// An empty slot.

@@ -2,8 +2,7 @@
 
 ghost use Rattle.std.specs.Prelude.{◌≡◌};
 ghost use Rattle.psci_messages.specs.Saved.{are_numbers, are_parts, are_parts_of, are_slots};
-ghost use Rattle.psci_messages.specs.Saved.{is_slot};
-ghost use Rattle.psci_messages.specs.Saved.{are_zero, is_empty, is_message, is_part};
+ghost use Rattle.psci_messages.specs.Saved.{are_zero, is_empty, is_message, is_part, is_slot};
 
 use crate::saving::SLOT_WORDS;
 use psci_state::POWER_DOWN;
@@ -88,7 +87,7 @@ fn are_parts_of(kind: u64, words: &[u64]) -> bool
 }
 
 /// Whether these are depths and generations of parts, of which none is deeper than this.
-#[tactic(auto, using(crate::proofs::SavedSlices::parts_by))]
+#[tactic(auto, using(crate::proofs::SavedSlots::parts_by))]
 fn are_parts(most: u64, words: &[u64]) -> bool
     ensures { result ≡ are_parts most words.now }
 {

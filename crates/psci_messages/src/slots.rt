@@ -27,14 +27,13 @@ impl Model for Slots {
     ghost view = { λ s. record { cores = s.cores.items; system = s.system.value } };
 }
 
-ghost use Rattle.std.specs.Prelude.{◌≡◌, None, Some, option_map, replicate, length, IfOk};
-ghost use Rattle.std.specs.Prelude.{◌<◌, ◌≤◌, ◌+◌, ◌++◌, suc, true, take, IsSomeAnd};
-ghost use Rattle.std.specs.Prelude.{slice_index_or, slice_set};
-ghost use Rattle.psci_messages.specs.Slots.{slot_of, message_in, message_at, with_message};
-ghost use Rattle.psci_messages.specs.Slots.{no_messages, after_change, taken, IsOfCores};
-ghost use Rattle.psci_messages.specs.Slots.{answered, is_done};
+ghost use Rattle.std.specs.Prelude.{◌++◌, ◌+◌, ◌<◌, ◌≡◌, ◌≤◌, IfOk, IsSomeAnd, length, None};
+ghost use Rattle.std.specs.Prelude.{option_map, replicate, slice_index_or, slice_set, Some, suc};
+ghost use Rattle.std.specs.Prelude.{take, true};
+ghost use Rattle.psci_messages.specs.Slots.{after_change, answered, is_done, IsOfCores, message_at};
+ghost use Rattle.psci_messages.specs.Slots.{message_in, no_messages, slot_of, taken, with_message};
 ghost use Rattle.std.specs.Borrow.{sem};
-ghost use Rattle.psci_messages.specs.Lending.{LendsOfCore};
+ghost use Rattle.psci_messages.specs.Outstanding.{LendsOfCore};
 ghost use Rattle.psci_messages.specs.Saved.{AreKept, are_slots, slots_words};
 ghost use Rattle.psci_messages.specs.declared.taken.Taken.TheVariants.{Old};
 ghost use Rattle.psci_messages.specs.Slots.Change.{Put, Clear, ClearAll, Acknowledge};

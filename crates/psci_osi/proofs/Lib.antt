@@ -1,5 +1,1 @@
-mod Climbs
-mod Counts
 mod Gathered
-mod Refusals
-mod Siblings

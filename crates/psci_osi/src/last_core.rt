@@ -3,8 +3,8 @@
 ghost use Rattle.std.specs.Prelude.{◌≡◌, ◌≢◌, ◌<◌, ◌≤◌};
 ghost use Rattle.psci_board.specs.Board.{HasNodeIn, IsBoard, cores};
 ghost use Rattle.psci_tree.specs.Recount.{active, granted_at};
-ghost use Rattle.psci_messages.specs.LastCore.{elsewhere, children_of, granted_less};
-ghost use Rattle.psci_messages.specs.LastCore.{last_core_check, refusal, shallow};
+ghost use Rattle.psci_messages.specs.Claim.{children_of, elsewhere, granted_less, last_core_check};
+ghost use Rattle.psci_messages.specs.Claim.{refusal, shallow};
 ghost use Rattle.psci_messages.specs.Looked.{view_of};
 ghost use Rattle.psci_osi.specs.Worse.{worse};
 

@@ -4,17 +4,196 @@ use Rattle.std.proofs.lemmas.Bool.{cases_Bool, leb-true}
 use Rattle.std.proofs.lemmas.List.{get_or_default}
 use Rattle.std.proofs.lemmas.List.Folds.{Any-from_list_any}
 use Rattle.std.proofs.lemmas.List.Sums.{position_or_len_is, sum_by-cons}
-use Rattle.psci_platform.proofs.Words.{◌*◌, ◌+◌, ◌/◌, ◌<◌, ◌==◌, ◌^◌, ◌∙◌, ◌∷◌, ◌≡◌, ◌≤◌, [], ap}
-use Rattle.psci_platform.proofs.Words.{arith, BoardValue, Bool, boot_place, cond, core_named, cores}
-use Rattle.psci_platform.proofs.Words.{count_by, DescriptionValue, eqb-true, false, fault_of}
-use Rattle.psci_platform.proofs.Words.{has_same, height, inl, inr, length, List, list_any_at}
-use Rattle.psci_platform.proofs.Words.{nat_le, nat_lt, nat_tests, None, none-some, number_named}
-use Rattle.psci_platform.proofs.Words.{Option, position-Some, position_or_len, refl, slice_index}
-use Rattle.psci_platform.proofs.Words.{Some, suc, swap_for, true, unwrap_or, zero, ℕ}
-use Rattle.psci_platform.specs.Swaps.{is_symmetric}
-use Rattle.psci_platform.proofs.Checked.{passed}
-use Rattle.psci_platform.proofs.Swapped.{left}
-use Rattle.psci_platform.proofs.Unmoved.{Laws, boots_first}
+use Rattle.psci_board.specs.Board.{child, child_number}
+use Rattle.psci_fw_laws.specs.Renumbered.{swap}
+use Rattle.psci_platform.specs.Cores.{field_of}
+use Rattle.psci_platform.specs.Swaps.{is_on_path, is_symmetric, moved, moved_in, number_of}
+use Rattle.psci_platform.specs.Swaps.{other_number}
+use Rattle.psci_platform.proofs.ByWord.{passed}
+use Rattle.psci_platform.proofs.Swapped.{all_of, left}
+use Rattle.psci_platform.proofs.Words.{◌*◌, ◌+◌, ◌/◌, ◌<◌, ◌==◌, ◌^◌, ◌∙◌, ◌∷◌, ◌≡◌, ◌≤◌, []}
+use Rattle.psci_platform.proofs.Words.{address, ap, arith, BoardValue, Bool, boot_place}
+use Rattle.psci_platform.proofs.Words.{cases_lt, cond, core_named, cores, count_by}
+use Rattle.psci_platform.proofs.Words.{DescriptionValue, domain_of, eq-eqb, eqb-true, false}
+use Rattle.psci_platform.proofs.Words.{fault_of, goes_along, has_same, height, if◌then◌else◌}
+use Rattle.psci_platform.proofs.Words.{inl, inr, is_swapped, IsBoard, le-ltb, length, List}
+use Rattle.psci_platform.proofs.Words.{list_any_at, lt-ltb, nat_le, nat_lt, nat_tests, Node}
+use Rattle.psci_platform.proofs.Words.{None, none-some, number_named, Option, parent, ParentLaws}
+use Rattle.psci_platform.proofs.Words.{PathLaws, position-Some, position_or_len, refl, SizeLaws}
+use Rattle.psci_platform.proofs.Words.{slice_index, Some, suc, swap_for, sym, true, unwrap_or}
+use Rattle.psci_platform.proofs.Words.{up, WordLaws, zero, ℕ}
+
+-- The affinity word of a core by the numbers of the domains on its path ---------------------------
+
+-- a number, or none
+picked : (l h x : ℕ) → l < h → (if nat_lt l h then x else 0) ≡ x
+picked l h x below = grind (arith, nat_tests)
+
+dropped : (l h x : ℕ) → h ≤ l → (if nat_lt l h then x else 0) ≡ 0
+dropped l h x above = grind (arith, nat_tests)
+
+module _ (b : BoardValue) (parents : ParentLaws b) (paths : PathLaws b) (words : WordLaws b)
+    (c : ℕ) (inside : c < cores b) where
+  -- the number of a core's domain of a level, below the fields of the domains above
+  each : (l : ℕ) → l < height b → address b l (up b l c)
+      ≡ unwrap_or (child_number b (domain_of b c l)) 0 + 256 * address b (suc l) (up b (suc l) c)
+  each l below =
+      let above = parents.path c l inside below in
+      let k = parents.numbered (domain_of b c (suc l)) (domain_of b c l) above in
+      let down = parents.child (domain_of b c (suc l)) (domain_of b c l) k.0 above k.1 in
+      rw k.1 (words.child_fields (domain_of b c (suc l)) (domain_of b c l) k.0 down)
+
+  -- the fields of a core's domain of a level and of those above: none from the system on
+  unfoldable rest : ℕ → ℕ
+  rest l = if nat_lt l (height b) then address b l (up b l c) else 0
+
+  rest_above : (l : ℕ) → height b ≤ l → rest l ≡ 0
+  unfolding rest
+  rest_above l above = dropped l (height b) (address b l (up b l c)) above
+
+  system : (l : ℕ) → height b ≡ l → address b l (up b l c) ≡ 0
+  system l e = rw (sym e) (rw (paths.system c inside) words.system)
+
+  rest_is : (l : ℕ) → l ≤ height b → rest l ≡ address b l (up b l c)
+  unfolding rest
+  rest_is l most = elim (cases_lt l (height b)) [
+    | inl below ↦ picked l (height b) (address b l (up b l c)) below
+    | inr above ↦
+        let e : height b ≡ l = omega (arith, most, above) in
+        dropped l (height b) (address b l (up b l c)) above ∙ sym (system l e)
+  ]
+
+  one_up : (l : ℕ) → rest l ≡ field_of b c l + 256 * rest (suc l)
+  unfolding field_of
+  one_up l = elim (cases_lt l (height b)) [
+    | inl below ↦ omega (
+      arith,
+      each l below,
+      rest_is l (omega (arith, below)),
+      rest_is (suc l) (omega (arith, below)),
+      picked l (height b) (unwrap_or (child_number b (domain_of b c l)) 0) below,
+    )
+    | inr above ↦ omega (
+      arith,
+      rest_above l above,
+      rest_above (suc l) (omega (arith, above)),
+      dropped l (height b) (unwrap_or (child_number b (domain_of b c l)) 0) above,
+    )
+  ]
+
+  -- the affinity word of a core has the fields of its domains
+  pub fields : height b ≤ 3
+      → address b 0 c ≡ field_of b c 0 + 256 * field_of b c 1 + 65536 * field_of b c 2
+  fields high =
+      let core : rest 0 ≡ address b 0 c =
+      rest_is 0 (omega arith) ∙ ap (address b 0) (paths.core c) in
+      omega (arith, core, one_up 0, one_up 1, one_up 2, rest_above 3 high)
+
+-- Where the boot core is core 0, nothing is swapped -----------------------------------------------
+
+-- What the proofs stand on.
+pub record Laws (b : BoardValue) : Type 0 where
+  pub sizes : SizeLaws b
+  pub paths : PathLaws b
+  pub parents : ParentLaws b
+
+pub record BoardLaws (b : BoardValue) : Type 0 where
+  pub board : IsBoard b
+  pub tree : Laws b
+  pub words : WordLaws b
+
+pub laws_on : (b : BoardValue) → IsBoard b → SizeLaws b → PathLaws b → ParentLaws b → WordLaws b
+    → BoardLaws b
+laws_on b board sizes paths parents words = record {
+  board = board;
+  tree = record { sizes = sizes; paths = paths; parents = parents };
+  words = words;
+}
+
+up_first : (b : BoardValue) (l : ℕ) → Laws b → l ≤ height b → up b l 0 ≡ 0
+up_first b l laws h =
+    let n : Node = record { level = l; place = 0 } in
+    let found = laws.paths.some_core n (record { level = h; place = laws.sizes.some l }) in
+    let at : up b l found.0 ≡ 0 = found.2 in
+    let less : up b l 0 ≤ up b l found.0 = laws.paths.ordered 0 found.0 l (omega arith) in
+    omega (arith, at, less)
+
+-- a child of this place has no greater number
+child_place : (b : BoardValue) (n m : Node) (k : ℕ) → child b n k ≡ Some m → k ≤ m.place
+child_place b n m k e = grind (arith, nat_tests)
+
+-- the first node of a level is the first of its siblings
+first_number : (b : BoardValue) (l : ℕ) → Laws b → number_of b (domain_of b 0 l) ≡ 0
+first_number b l laws = elim (cases_lt l (height b)) [
+  | inl h ↦
+      let m : Node = domain_of b 0 l in
+      let n : Node = domain_of b 0 (suc l) in
+      let over : parent b m ≡ Some n = laws.parents.path 0 l (laws.sizes.some 0) h in
+      let k = laws.parents.numbered n m over in
+      let down = laws.parents.child n m k.0 over k.1 in
+      let least : k.0 ≤ up b l 0 = child_place b n m k.0 down in
+      let zero : up b l 0 ≡ 0 = up_first b l laws (omega (arith, h)) in
+      ap (λ (o : Option ℕ). unwrap_or o 0) k.1 ∙ omega (arith, least, zero)
+  | inr h ↦ rw (le-ltb l (height b) h) refl
+]
+
+swap_none : (t : Bool) (m : ℕ) → (if t then swap 0 0 m else m) ≡ m
+swap_none t m = grind (arith, nat_tests)
+
+own_number : (b : BoardValue) (above n : Node) → Laws b → other_number b 0 above n ≡ number_of b n
+own_number b above n laws =
+    rw (first_number b n.level laws) (swap_none (is_on_path b 0 above) (number_of b n))
+
+own_child : (b : BoardValue) (above n : Node) → Laws b → parent b n ≡ Some above
+    → child b above (number_of b n) ≡ Some n
+own_child b above n laws e =
+    let k = laws.parents.numbered above n e in
+    ap (child b above) (ap (λ (o : Option ℕ). unwrap_or o 0) k.1)
+    ∙ laws.parents.child above n k.0 e k.1
+
+own_in : (b : BoardValue) (levels : ℕ) (n : Node) (o : Option Node) → Laws b → parent b n ≡ o
+    → moved_in b 0 levels n ≡ n
+own_in b zero n o laws e = refl
+own_in b (suc levels) n None laws e = rw e refl
+own_in b (suc levels) n (Some above) laws e =
+    let same : moved_in b 0 levels above ≡ above =
+    own_in b levels above (parent b above) laws refl in
+    rw (e, same, own_number b above n laws, own_child b above n laws e) refl
+
+pub own : (b : BoardValue) (n : Node) → Laws b → moved b 0 n ≡ n
+unfolding moved
+own b n laws = own_in b 3 n (parent b n) laws refl
+
+pub own_place : (b : BoardValue) (level place : ℕ) → Laws b → swap_for b 0 level place ≡ place
+own_place b level place laws =
+    ap (λ (n : Node). n.place) (own b (record { level = level; place = place }) laws)
+
+-- The test --------------------------------------------------------------------------------------
+
+goes : (b : BoardValue) (c level : ℕ) → Laws b → goes_along b 0 c level ≡ true
+goes b c level laws =
+    rw (own_place b 0 c laws, own_place b level (up b level c) laws) (grind (arith, nat_tests))
+
+stays : (b : BoardValue) (c : ℕ) → Laws b → c < cores b → is_swapped b 0 c ≡ true
+stays b c laws h =
+    let is : swap_for b 0 0 c ≡ c = own_place b 0 c laws in
+    rw (
+      goes b c 1 laws,
+      goes b c 2 laws,
+      goes b c 3 laws,
+      is,
+      is,
+      lt-ltb c (cores b) h,
+      eq-eqb c c refl,
+    ) refl
+
+pub boots_first : (b : BoardValue) → Laws b → is_symmetric b 0 ≡ true
+unfolding is_symmetric
+boots_first b laws =
+    rw (eq-eqb _ 0 (own_place b 0 0 laws)) (all_of (is_swapped b 0) 0 (cores b) (λ k low high.
+    stays b k laws (omega (arith, high))))
+
+-- Named -------------------------------------------------------------------------------------------
 
 -- Each core -------------------------------------------------------------------------------------
 

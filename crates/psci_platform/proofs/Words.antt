@@ -13,15 +13,15 @@ pub use Rattle.std.specs.List.{count_by, list_all, position, position_or_len, ra
 pub use Rattle.std.specs.Prelude.{◌↔◌, Err, find, IfSome, IsTrue, nat_le, Ok, option_map, Result}
 pub use Rattle.std.specs.Prelude.{slice_index}
 pub use Rattle.psci_abi.specs.Calls.{argument, function_of, low_half, request_of}
-pub use Rattle.psci_abi.specs.declared.format.Format.{Format}
-pub use Rattle.psci_abi.specs.declared.format.Format.TheVariants.{Extended, Original}
+pub use Rattle.psci_abi.specs.declared.registers.Format.{Format}
+pub use Rattle.psci_abi.specs.declared.registers.Format.TheVariants.{Extended, Original}
 pub use Rattle.psci_abi.specs.declared.registers.Regs.{Regs}
 pub use Rattle.psci_abi.specs.declared.request.Request.{Request}
 pub use Rattle.psci_board.specs.Board.{address, BoardValue, core_of, cores, domain_of, height}
-pub use Rattle.psci_board.specs.Board.{IsBoard, node_of, parent, up}
-pub use Rattle.psci_board.specs.Laws.{ParentLaws, PathLaws, SizeLaws, WordLaws}
-pub use Rattle.psci_board.specs.declared.node.Core.{Core}
-pub use Rattle.psci_board.specs.declared.node.Node.{Node}
+pub use Rattle.psci_board.specs.Board.{IsBoard, node_of, parent, ParentLaws, PathLaws, SizeLaws, up}
+pub use Rattle.psci_board.specs.Board.{WordLaws}
+pub use Rattle.psci_board.specs.declared.draft.Core.{Core}
+pub use Rattle.psci_board.specs.declared.draft.Node.{Node}
 pub use Rattle.psci_fw_laws.specs.Renumbered.{IsRenumbering}
 pub use Rattle.psci_fw_spec.specs.declared.mode.SuspendMode.{SuspendMode}
 pub use Rattle.psci_fw_spec.specs.declared.mode.SuspendMode.TheVariants.{OsInitiated, Platform}
@@ -46,6 +46,5 @@ pub use Rattle.psci_platform.specs.declared.functions.Functions.{Functions}
 pub use Rattle.psci_platform.specs.declared.names.Name.{Name}
 pub use Rattle.psci_platform.specs.declared.readings.Reading.{Reading}
 pub use Rattle.psci_platform.specs.declared.row.Row.{Row}
-pub use Rattle.psci_state.specs.Ask.{deepest_of, highest_of, is_ask, IsAsk}
-pub use Rattle.psci_state.specs.PowerState.{ask_of, word_of}
+pub use Rattle.psci_state.specs.PowerState.{ask_of, deepest_of, highest_of, is_ask, IsAsk, word_of}
 pub use Rattle.psci_state.specs.declared.fault.BadState.{BadState}

@@ -1,13 +1,13 @@
 -- The faults of a description, the first one first.
-use Rattle.std.specs.Prelude.{ℕ, ◌+◌, ◌-◌, ◌/◌, ◌%◌, ◌^◌, Bool, not, ◌==◌, ◌&&◌, ◌||◌}
-use Rattle.std.specs.Prelude.{nat_le, nat_lt, if◌then◌else◌, List, [], ◌∷◌, length, Option, Some}
-use Rattle.std.specs.Prelude.{None, slice_index}
+use Rattle.std.specs.Prelude.{◌%◌, ◌&&◌, ◌+◌, ◌-◌, ◌/◌, ◌==◌, ◌^◌, ◌||◌, ◌∷◌, [], Bool}
+use Rattle.std.specs.Prelude.{if◌then◌else◌, length, List, nat_le, nat_lt, None, not, Option}
+use Rattle.std.specs.Prelude.{slice_index, Some, ℕ}
 use Rattle.std.specs.Int.Bits.{bit_and}
 use Rattle.std.specs.List.{list_any, list_all, count_by, range_with_len}
-use Rattle.psci_abi.specs.declared.format.Format.{Format}
-use Rattle.psci_abi.specs.declared.format.Format.TheVariants.{Original, Extended}
+use Rattle.psci_abi.specs.declared.registers.Format.{Format}
+use Rattle.psci_abi.specs.declared.registers.Format.TheVariants.{Original, Extended}
 use Rattle.psci_board.specs.Board.{BoardValue, cores, height}
-use Rattle.psci_state.specs.Ask.{is_ask, deepest_of, power_down, running}
+use Rattle.psci_state.specs.PowerState.{is_ask, deepest_of, power_down, running}
 use Rattle.psci_platform.specs.declared.class.TheConstants.{STATES}
 use Rattle.psci_platform.specs.Cores.{boot_place}
 use Rattle.psci_platform.specs.Described.{DescriptionValue}

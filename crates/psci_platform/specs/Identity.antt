@@ -1,19 +1,18 @@
 -- The description of a platform that names everything as the firmware itself does.
-use Rattle.std.specs.Prelude.{ℕ, ◌-◌, ◌/◌, ◌%◌, ◌^◌, ◌&&◌, true, nat_le, List, [], ◌∷◌, map, filter}
-use Rattle.std.specs.Prelude.{replicate, Result, Ok, Err}
+use Rattle.std.specs.Prelude.{◌%◌, ◌&&◌, ◌-◌, ◌/◌, ◌^◌, ◌∷◌, [], Err, filter, List, map, nat_le}
+use Rattle.std.specs.Prelude.{Ok, replicate, Result, true, ℕ}
 use Rattle.std.specs.List.{range_with_len}
 use Rattle.psci_abi.specs.declared.request.Request.{Request}
 use Rattle.psci_abi.specs.declared.request.Request.TheVariants as requests
-use Rattle.psci_abi.specs.declared.format.Format.{Format}
+use Rattle.psci_abi.specs.declared.registers.Format.{Format}
 use Rattle.psci_board.specs.Board.{BoardValue, address, cores, height}
-use Rattle.psci_state.specs.Ask.{deepest_of, highest_of, is_ask}
-use Rattle.psci_state.specs.PowerState.{ask_of, word_of}
+use Rattle.psci_state.specs.PowerState.{ask_of, deepest_of, highest_of, is_ask, word_of}
 use Rattle.psci_state.specs.declared.fault.BadState.{BadState}
 use Rattle.psci_platform.specs.declared.asked.Asked.{Asked}
 use Rattle.psci_platform.specs.declared.asked.Asked.TheVariants.{Nothing, States}
 use Rattle.psci_platform.specs.declared.class.Class.{Class}
-use Rattle.psci_platform.specs.declared.class.Class.TheVariants.{Running, Standby, Retention}
-use Rattle.psci_platform.specs.declared.class.Class.TheVariants.{PowerDown}
+use Rattle.psci_platform.specs.declared.class.Class.TheVariants.{PowerDown, Retention, Running}
+use Rattle.psci_platform.specs.declared.class.Class.TheVariants.{Standby}
 use Rattle.psci_platform.specs.declared.functions.Functions.{Functions}
 use Rattle.psci_platform.specs.declared.row.Row.{Row}
 use Rattle.psci_platform.specs.Described.{DescriptionValue}

@@ -1,17 +1,16 @@
 -- Power state words of a platform, and what they ask of each level.
-use Rattle.std.specs.Prelude.{ℕ, ◌-◌, Bool, true, not, ◌==◌, ◌&&◌, nat_lt}
-use Rattle.std.specs.Prelude.{if◌then◌else◌, List, [], ◌∷◌, Option, Some, None, slice_index}
-use Rattle.std.specs.Prelude.{slice_index_or, map, find}
+use Rattle.std.specs.Prelude.{◌&&◌, ◌-◌, ◌==◌, ◌∷◌, [], Bool, find, if◌then◌else◌, List, map}
+use Rattle.std.specs.Prelude.{nat_lt, None, not, Option, slice_index, slice_index_or, Some, true}
+use Rattle.std.specs.Prelude.{ℕ}
 use Rattle.std.specs.Int.Bits.{bit_and}
 use Rattle.std.specs.List.{list_any}
-use Rattle.psci_abi.specs.declared.format.Format.{Format}
+use Rattle.psci_abi.specs.declared.registers.Format.{Format}
 use Rattle.psci_fw_spec.specs.declared.mode.SuspendMode.{SuspendMode}
 use Rattle.psci_fw_spec.specs.declared.mode.SuspendMode.TheVariants.{Platform, OsInitiated}
-use Rattle.psci_state.specs.Ask.{is_ask, power_down, retention, running, standby}
-use Rattle.psci_state.specs.PowerState.{word_of}
+use Rattle.psci_state.specs.PowerState.{is_ask, power_down, retention, running, standby, word_of}
 use Rattle.psci_platform.specs.declared.class.Class.{Class}
-use Rattle.psci_platform.specs.declared.class.Class.TheVariants.{Running, Standby, Retention}
-use Rattle.psci_platform.specs.declared.class.Class.TheVariants.{PowerDown}
+use Rattle.psci_platform.specs.declared.class.Class.TheVariants.{PowerDown, Retention, Running}
+use Rattle.psci_platform.specs.declared.class.Class.TheVariants.{Standby}
 use Rattle.psci_platform.specs.Described.{DescriptionValue}
 use Rattle.psci_platform.specs.declared.readings.Reading.{Reading}
 use Rattle.psci_platform.specs.declared.row.Row.{Row}

@@ -5,7 +5,7 @@ use Rattle.std.specs.Prelude.{option_map, unwrap_or}
 use Rattle.std.specs.List.{list_all, range_with_len}
 use Rattle.psci_board.specs.Board.{BoardValue, child, child_number, cores, domain_of, height}
 use Rattle.psci_board.specs.Board.{parent, up}
-use Rattle.psci_board.specs.declared.node.Node.{Node}
+use Rattle.psci_board.specs.declared.draft.Node.{Node}
 use Rattle.psci_fw_laws.specs.Renumbered.{swap}
 
 -- the number of a node among its siblings, and 0 of the system

@@ -30,12 +30,12 @@ impl Model for PlatformFirmware {
 }
 
 ghost use Rattle.std.specs.Prelude.{◌≡◌, ℕ, IfOk, OnErr};
-ghost use Rattle.psci_fw.specs.Seen.{seen};
+ghost use Rattle.psci_fw.specs.Reactions.{seen};
 ghost use Rattle.psci_fw_spec.specs.declared.call.FwCall.TheVariants as calls;
 ghost use Rattle.psci_fw_spec.specs.declared.reply.FwReply.TheVariants as replies;
-ghost use Rattle.psci_fw_spec.specs.After.{after};
+ghost use Rattle.psci_fw_spec.specs.Effects.{after};
 ghost use Rattle.psci_fw_spec.specs.Answer.{answer, reply_of};
-ghost use Rattle.psci_fw_spec.specs.Lives.{start_of_life};
+ghost use Rattle.psci_fw_spec.specs.Changes.{start_of_life};
 ghost use Rattle.psci_messages.specs.declared.taken.Taken.TheVariants.{Old};
 ghost use Rattle.psci_platform.specs.Calls.{asked_for};
 ghost use Rattle.psci_platform.specs.Platforms.{called};

@@ -21,7 +21,7 @@ impl Description {
     /// The affinity word of the board for an MPIDR at this level. Where the names of the level are
     /// kept, an MPIDR without a name names no core.
     #[inline(always)]
-    #[tactic(auto, using(crate::proofs::Naming::word_found, crate::proofs::Naming::word_missed))]
+    #[tactic(auto, using(crate::proofs::Swaps::word_found, crate::proofs::Swaps::word_missed))]
     pub(crate) fn word_by(
         &self,
         board: &Board,
@@ -47,7 +47,7 @@ impl Description {
 
     /// The names of this level, if they are kept.
     #[inline(always)]
-    #[tactic(auto, using(crate::proofs::Naming::table_at))]
+    #[tactic(auto, using(crate::proofs::Swaps::table_at))]
     pub(crate) fn table_kept<'r>(
         &self,
         board: &Board,

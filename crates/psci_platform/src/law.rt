@@ -1,22 +1,21 @@
 //! What holds of platforms: each law is the contract of a function that does nothing.
 
-ghost use Rattle.std.specs.Prelude.{◌≡◌, ◌≤◌, ◌<◌, ℕ, true, false, None, Some, Ok, Err, List};
-ghost use Rattle.std.specs.Prelude.{length, option_map, slice_index};
+ghost use Rattle.std.specs.Prelude.{◌<◌, ◌≡◌, ◌≤◌, Err, false, length, List, None, Ok, option_map};
+ghost use Rattle.std.specs.Prelude.{slice_index, Some, true, ℕ};
 ghost use Rattle.psci_abi.specs.Calls.{request_of};
 ghost use Rattle.psci_abi.specs.declared.registers.Regs.{Regs};
 ghost use Rattle.psci_abi.specs.declared.request.Request.TheVariants as requests;
-ghost use Rattle.psci_abi.specs.declared.format.Format.{Format};
-ghost use Rattle.psci_board.specs.Board.{BoardValue, IsBoard, address, core_of, cores, height};
+ghost use Rattle.psci_abi.specs.declared.registers.Format.{Format};
+ghost use Rattle.psci_board.specs.Board.{address, BoardValue, core_of, cores, height, IsBoard};
 ghost use Rattle.psci_board.specs.Board.{node_of, up};
 ghost use Rattle.psci_fw_laws.specs.Renumbered.{CallsBy, IsRenumbering, reply_by, values_by};
 ghost use Rattle.psci_fw_spec.specs.declared.call.FwCall.TheVariants as calls;
 ghost use Rattle.psci_fw_spec.specs.declared.mode.SuspendMode.{SuspendMode};
 ghost use Rattle.psci_fw_spec.specs.declared.reply.FwReply.{FwReply};
-ghost use Rattle.psci_fw_spec.specs.After.{after};
+ghost use Rattle.psci_fw_spec.specs.Effects.{after};
 ghost use Rattle.psci_fw_spec.specs.Answer.{answer};
 ghost use Rattle.psci_fw_spec.specs.Values.{Values};
-ghost use Rattle.psci_state.specs.Ask.{deepest_of};
-ghost use Rattle.psci_state.specs.PowerState.{ask_of};
+ghost use Rattle.psci_state.specs.PowerState.{ask_of, deepest_of};
 ghost use Rattle.psci_platform.specs.declared.asked.Asked.TheVariants as asks;
 ghost use Rattle.psci_platform.specs.Calls.{asked_by, asked_for, first_argument, is_there};
 ghost use Rattle.psci_platform.specs.Calls.{regs_for};
@@ -30,7 +29,6 @@ ghost use Rattle.psci_platform.specs.Swaps.{is_symmetric, swap_for};
 
 use psci_board::{law_parents, law_paths, law_sizes, law_words};
 use psci_fw_laws::law_no_core_is_special;
-use psci_state::law_power_states;
 
 /// What a platform does not have is nothing to the firmware, whatever the board: a function that is
 /// not there is unknown, the word for a wrong power state is none, and the word for a wrong MPIDR
@@ -135,9 +133,7 @@ pub fn law_asked()
     ensures system { (d : DescriptionValue) (b : BoardValue) (boot : ℕ)
         → fault_of d b boot ≡ None → d.functions.system_suspend ≡ true
         → depths_of d d.system ≡ deepest_of (height b) }
-{
-    law_power_states();
-}
+{}
 
 /// A platform that names everything as the firmware does is the firmware: with the identity of a
 /// board each call of each core, whatever its registers, is answered as the firmware answers it
@@ -165,5 +161,4 @@ pub fn law_identity()
     law_paths();
     law_parents();
     law_words();
-    law_power_states();
 }

@@ -1,12 +1,11 @@
 //! A platform: a description that has no fault, and its board.
 
+use crate::class::LEVELS;
 use crate::description::Description;
 use crate::fault::PlatformFault;
 use crate::law::law_boot_core;
 use crate::ready::Ready;
 use crate::swap::{moved, other_core};
-use crate::translate::Call;
-use psci_abi::Regs;
 use psci_board::{Board, Core, Memory, Node};
 use psci_fw_spec::SuspendMode;
 use std::alloc::Global;
@@ -48,12 +47,12 @@ impl Model for Platform {
     }) × IfSome p.ready (IsReady p.description p.board p.boot_core.number) };
 }
 
-ghost use Rattle.std.specs.Prelude.{◌≡◌, ◌<◌, None, Some, IfOk, IfSome, MatchResult, option_map};
-ghost use Rattle.std.specs.Prelude.{is_some, length, slice_get};
+ghost use Rattle.std.specs.Prelude.{◌<◌, ◌≡◌, IfOk, IfSome, is_some, length, MatchResult, None};
+ghost use Rattle.std.specs.Prelude.{option_map, slice_get, Some};
 ghost use Rattle.psci_board.specs.Board.{cores};
 ghost use Rattle.psci_platform.specs.Cores.{boot_place, core_word, number_named};
 ghost use Rattle.psci_platform.specs.Names.{IsReady};
-ghost use Rattle.psci_platform.specs.Calls.{asked_for, regs_for};
+ghost use Rattle.psci_platform.specs.States.{states_of, word_for};
 ghost use Rattle.psci_platform.specs.Faults.{fault_of};
 ghost use Rattle.psci_platform.specs.Platforms.{IsInOrder};
 ghost use Rattle.psci_platform.specs.Swaps.{moved, swap_for};
@@ -61,7 +60,7 @@ ghost use Rattle.psci_platform.specs.Swaps.{moved, swap_for};
 impl Platform {
     /// The platform of this description and this board, whose boot core has this MPIDR; or the
     /// first fault of the description.
-    #[tactic(auto, using(crate::proofs::Checked::some_count))]
+    #[tactic(auto, using(crate::proofs::ByWord::some_count))]
     pub fn new(description: Description, board: Board, boot: u64) -> Result<Platform, PlatformFault>
         ensures fault { let fault = fault_of description board boot in
             MatchResult result (λ p. fault ≡ None) (λ e. fault ≡ Some e) }
@@ -90,7 +89,7 @@ impl Platform {
     }
 
     /// The same platform, which finds a core, a power domain or a row at once.
-    #[tactic(auto, using(crate::proofs::Checked::some_count))]
+    #[tactic(auto, using(crate::proofs::ByWord::some_count))]
     pub fn in_order(self, alloc: Global) -> Result<Platform, Memory>
         ensures { IfOk result (IsInOrder self) }
     {
@@ -120,7 +119,7 @@ impl Platform {
     }
 
     /// The core that an MPIDR names, as the firmware numbers it, if there is one.
-    #[tactic(auto, using(crate::proofs::Checked::some_count, crate::proofs::Naming::by_name))]
+    #[tactic(auto, using(crate::proofs::ByWord::some_count, crate::proofs::Swaps::by_name))]
     pub fn core(&self, mpidr: u64) -> Option<Core>
         ensures core { option_map (λ core. core.number) result
             ≡ number_named self.now.description self.now.board self.now.place mpidr 0 }
@@ -141,12 +140,33 @@ impl Platform {
 
     /// The affinity word of the board for the core that an MPIDR names; where there is none, a word
     /// that names no core of any board.
-    #[tactic(auto, using(crate::proofs::Checked::some_count))]
     pub fn word(&self, mpidr: u64) -> u64
         ensures { result ≡ core_word self.now.description self.now.board self.now.place mpidr 0 }
     {
+        self.word_at(mpidr, 0)
+    }
+
+    /// The same of the domain at this level.
+    #[inline(always)]
+    #[tactic(auto, using(crate::proofs::ByWord::some_count))]
+    pub(crate) fn word_at(&self, mpidr: u64, level: u32) -> u64
+        ensures { result
+            ≡ core_word self.now.description self.now.board self.now.place mpidr level }
+    {
         self.description
-            .word_by(&self.board, self.boot_core, self.ready(), mpidr, 0)
+            .word_by(&self.board, self.boot_core, self.ready(), mpidr, level)
+    }
+
+    /// The power state word of the board for one of the platform, and its states, if it can be
+    /// asked for in this mode.
+    #[inline(always)]
+    pub(crate) fn state(&self, mode: SuspendMode, word: u32) -> (u32, Option<[u8; LEVELS]>)
+        ensures word { result.0 ≡ word_for self.now.description self.now.board.format
+            (states_of self.now.description mode word) }
+        ensures states { result.1 ≡ states_of self.now.description mode word }
+    {
+        self.description
+            .state_by(&self.board, self.boot_core, self.ready(), mode, word)
     }
 
     /// The MPIDR of a core, if the platform has it: of one that a message names.
@@ -164,21 +184,5 @@ impl Platform {
         ensures { result ≡ moved self.now.board self.now.place node }
     {
         moved(&self.board, self.boot_core, node)
-    }
-
-    /// The call of the firmware for a call of the platform, in this mode of the firmware.
-    ///
-    /// What the platform does not have becomes a word that the firmware does not have, so that the
-    /// firmware refuses it, and in its place among the refusals: a function NOT_SUPPORTED, a core
-    /// or a power state INVALID_PARAMETERS.
-    #[inline(always)]
-    #[tactic(auto, using(crate::proofs::Checked::some_count))]
-    pub fn translate(&self, mode: SuspendMode, regs: Regs) -> Call
-        ensures regs { result.regs
-            ≡ regs_for self.now.description self.now.board self.now.place mode regs }
-        ensures asked { result.asked ≡ asked_for self.now.description mode regs }
-    {
-        self.description
-            .translate_by(&self.board, self.boot_core, self.ready(), mode, regs)
     }
 }

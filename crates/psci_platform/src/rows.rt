@@ -2,8 +2,8 @@
 
 ghost use Rattle.std.specs.Prelude.{◌≡◌};
 ghost use Rattle.std.specs.List.{count_by, list_all};
-ghost use Rattle.psci_platform.specs.Faults.{has_bits, has_same_word, is_row_word, meet};
-ghost use Rattle.psci_platform.specs.Faults.{reserved, state_type};
+ghost use Rattle.psci_platform.specs.Faults.{has_bits, has_same_word, is_row_word, meet, reserved};
+ghost use Rattle.psci_platform.specs.Faults.{state_type};
 
 use crate::row::Row;
 use psci_board::Format;

@@ -1,13 +1,11 @@
 //! Power state words of a platform, and the words of the board for them.
 
-ghost use Rattle.std.specs.Prelude.{◌≡◌, ◌≤◌, ◌<◌, ◌^◌, None, Some, ℕ, slice_index, if◌then◌else◌};
-ghost use Rattle.std.specs.Prelude.{find, option_map};
-ghost use Rattle.psci_state.specs.Ask.{is_ask, power_down};
-ghost use Rattle.psci_state.specs.PowerState.{id_of, word_of};
-ghost use Rattle.psci_abi.specs.declared.format.Format.TheVariants.{Extended};
+ghost use Rattle.std.specs.Prelude.{◌<◌, ◌^◌, ◌≡◌, ◌≤◌, find, if◌then◌else◌, None, option_map};
+ghost use Rattle.std.specs.Prelude.{slice_index, Some, ℕ};
+ghost use Rattle.psci_state.specs.PowerState.{id_of, is_ask, power_down, word_of};
+ghost use Rattle.psci_abi.specs.declared.registers.Format.TheVariants.{Extended};
 ghost use Rattle.psci_platform.specs.States.{can_ask, depth_at, depths_of, is_deeper, reads};
-ghost use Rattle.psci_platform.specs.States.{row_of};
-ghost use Rattle.psci_platform.specs.States.{states_of, word_asking, word_for};
+ghost use Rattle.psci_platform.specs.States.{row_of, states_of, word_asking, word_for};
 
 use crate::class::{Class, LEVELS};
 use crate::description::Description;

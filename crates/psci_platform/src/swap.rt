@@ -1,7 +1,7 @@
 //! A boot core that is not the first one of the tree, and the swap that gives it number 0.
 
-ghost use Rattle.std.specs.Prelude.{◌≡◌, ℕ, ◌+◌, ◌≤◌, ◌<◌, true, None, Some, length};
-ghost use Rattle.std.specs.Prelude.{slice_index_or};
+ghost use Rattle.std.specs.Prelude.{◌+◌, ◌<◌, ◌≡◌, ◌≤◌, length, None, slice_index_or, Some, true};
+ghost use Rattle.std.specs.Prelude.{ℕ};
 ghost use Rattle.std.specs.List.{list_all, range_with_len};
 ghost use Rattle.psci_board.specs.Board.{HasNode, cores, domain_of, height, parent};
 ghost use Rattle.psci_fw_laws.specs.Renumbered.{swap};

@@ -47,7 +47,7 @@ impl Description {
     }
 
     /// The names of a level, if there is a factor for them.
-    #[tactic(auto, using(crate::proofs::Naming::has_names, crate::proofs::Naming::one_in_all))]
+    #[tactic(auto, using(crate::proofs::Swaps::has_names, crate::proofs::Swaps::one_in_all))]
     fn table(
         &self,
         alloc: Global,

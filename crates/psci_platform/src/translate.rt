@@ -1,22 +1,18 @@
 //! The call of the firmware for a call of a platform.
 
-ghost use Rattle.std.specs.Prelude.{◌≡◌, ◌<◌, true, length, if◌then◌else◌, IfSome};
+ghost use Rattle.std.specs.Prelude.{◌≡◌, if◌then◌else◌};
 ghost use Rattle.psci_abi.specs.Calls.{function_of};
-ghost use Rattle.psci_board.specs.Board.{cores};
 ghost use Rattle.psci_platform.specs.declared.asked.Asked.TheVariants as asks;
 ghost use Rattle.psci_platform.specs.Arguments.{regs_by, told_by};
-ghost use Rattle.psci_platform.specs.Calls.{asked_for, asks_states, feature_word};
-ghost use Rattle.psci_platform.specs.Calls.{is_vendors, no_function, regs_for, reset_word};
-ghost use Rattle.psci_platform.specs.Names.{IsReady};
-ghost use Rattle.psci_platform.specs.Swaps.{is_symmetric};
+ghost use Rattle.psci_platform.specs.Calls.{asked_for, asks_states, feature_word, is_vendors};
+ghost use Rattle.psci_platform.specs.Calls.{no_function, regs_for, reset_word};
 
 use crate::argument::Argument;
 use crate::asked::Asked;
 use crate::class::LEVELS;
 use crate::description::Description;
-use crate::ready::Ready;
+use crate::platform::Platform;
 use psci_abi::{Regs, Request, low, read};
-use psci_board::{Board, Core};
 use psci_fw_spec::SuspendMode;
 
 /// A function word that no function has.
@@ -31,95 +27,56 @@ pub struct Call {
     pub asked: Asked,
 }
 
-impl Description {
-    /// The call of the firmware for a call of the platform.
-    pub fn translate(&self, board: &Board, boot: Core, mode: SuspendMode, regs: Regs) -> Call
-        requires count { length self.now.mpidrs ≡ cores board.now }
-        requires boot { boot.number < cores board.now }
-        requires symmetric { is_symmetric board.now boot.number ≡ true }
-        ensures regs { result.regs ≡ regs_for self.now board.now boot.number mode regs }
-        ensures asked { result.asked ≡ asked_for self.now mode regs }
-    {
-        self.translate_by(board, boot, None, mode, regs)
-    }
-
-    /// The same, where these are names of cores.
+impl Platform {
+    /// The call of the firmware for a call of the platform, in this mode of the firmware.
+    ///
+    /// What the platform does not have becomes a word that the firmware does not have, so that the
+    /// firmware refuses it, and in its place among the refusals: a function NOT_SUPPORTED, a core
+    /// or a power state INVALID_PARAMETERS.
     #[inline(always)]
-    pub(crate) fn translate_by(
-        &self,
-        board: &Board,
-        boot: Core,
-        ready: Option<&Ready>,
-        mode: SuspendMode,
-        regs: Regs,
-    ) -> Call
-        requires count { length self.now.mpidrs ≡ cores board.now }
-        requires boot { boot.number < cores board.now }
-        requires symmetric { is_symmetric board.now boot.number ≡ true }
-        requires ready { IfSome ready (λ r. IsReady self.now board.now boot.number r.now) }
-        ensures regs { result.regs ≡ regs_for self.now board.now boot.number mode regs }
-        ensures asked { result.asked ≡ asked_for self.now mode regs }
+    pub fn translate(&self, mode: SuspendMode, regs: Regs) -> Call
+        ensures regs { result.regs
+            ≡ regs_for self.now.description self.now.board self.now.place mode regs }
+        ensures asked { result.asked ≡ asked_for self.now.description mode regs }
     {
-        let argument = self.functions.first_argument(low(regs.x0));
-        self.call_by(board, boot, ready, mode, regs, argument)
+        let argument = self.description.functions.first_argument(low(regs.x0));
+        self.call_by(mode, regs, argument)
     }
 
     /// The call of the firmware, where this is what the first argument names.
     #[inline(always)]
-    fn call_by(
-        &self,
-        board: &Board,
-        boot: Core,
-        ready: Option<&Ready>,
-        mode: SuspendMode,
-        regs: Regs,
-        argument: Argument,
-    ) -> Call
-        requires count { length self.now.mpidrs ≡ cores board.now }
-        requires boot { boot.number < cores board.now }
-        requires symmetric { is_symmetric board.now boot.number ≡ true }
-        requires ready { IfSome ready (λ r. IsReady self.now board.now boot.number r.now) }
-        ensures regs { result.regs ≡ regs_by self.now board.now boot.number mode regs argument }
-        ensures asked { result.asked ≡ told_by self.now mode regs argument }
+    fn call_by(&self, mode: SuspendMode, regs: Regs, argument: Argument) -> Call
+        ensures regs { result.regs
+            ≡ regs_by self.now.description self.now.board self.now.place mode regs argument }
+        ensures asked { result.asked ≡ told_by self.now.description mode regs argument }
     {
         let first = regs.argument(regs.x1);
         match argument {
-            Argument::Missing => Call {
-                regs: missing(regs),
-                asked: Asked::Nothing,
-            },
+            Argument::Missing => beside(missing(regs), Asked::Nothing),
             Argument::State => {
-                let (word, states) = self.state_by(board, boot, ready, mode, low(first));
+                let (word, states) = self.state(mode, low(first));
                 with_first(regs, u64::from(word), asks_states(states))
             }
-            Argument::Core => {
-                let word = self.word_by(board, boot, ready, first, 0);
-                with_first(regs, word, Asked::Nothing)
-            }
+            Argument::Core => with_first(regs, self.word_at(first, 0), Asked::Nothing),
             Argument::Node => {
-                let level = low(regs.argument(regs.x2));
-                let word = self.word_by(board, boot, ready, first, level);
+                let word = self.word_at(first, low(regs.argument(regs.x2)));
                 with_first(regs, word, Asked::Nothing)
             }
             Argument::Function => {
-                let word = self.feature_word(low(first));
+                let word = self.description.feature_word(low(first));
                 with_first(regs, u64::from(word), Asked::Nothing)
             }
             Argument::Reset => {
-                let (word, asked) = self.reset(low(first));
+                let (word, asked) = self.description.reset(low(first));
                 with_first(regs, word, asked)
             }
-            Argument::System => Call {
-                regs,
-                asked: Asked::States(self.system),
-            },
-            Argument::Other => Call {
-                regs,
-                asked: Asked::Nothing,
-            },
+            Argument::System => beside(regs, Asked::States(self.description.system)),
+            Argument::Other => beside(regs, Asked::Nothing),
         }
     }
+}
 
+impl Description {
     /// The function word that the firmware is asked about.
     fn feature_word(&self, word: u32) -> u32
         ensures { result ≡ feature_word self.now word }
@@ -154,6 +111,14 @@ fn missing(regs: Regs) -> Regs
         x0: u64::from(NO_FUNCTION),
         ..regs
     }
+}
+
+/// The call with these registers, and what is asked beside.
+#[inline(always)]
+fn beside(regs: Regs, asked: Asked) -> Call
+    ensures { result ≡ record { regs = regs; asked = asked } }
+{
+    Call { regs, asked }
 }
 
 /// The call with these registers but for this first argument.

@@ -1,28 +1,45 @@
 -- Sentence 3: a domain that is not fully on is as deep as the cores below it had asked for.
 use Rattle.std.specs.List.{list_all}
+use Rattle.std.proofs.Common.{map, reverse}
 use Rattle.std.proofs.lemmas.Bool.{and_from, and_parts}
-use Rattle.psci_platform_safe.proofs.Words.{◌++◌, ◌<◌, ◌==◌, ◌∙◌, ◌∷◌, ◌≡◌, ◌≤◌, ◌⊎◌, [], AllAsk}
-use Rattle.psci_platform_safe.proofs.Words.{ap, AreAsked, AreClaimed, arith, AskFor, BoardValue}
-use Rattle.psci_platform_safe.proofs.Words.{Bool, cond, controller_values, cores, depth_above}
-use Rattle.psci_platform_safe.proofs.Words.{domain_above, eq-eqb, false, firmware_values, height}
-use Rattle.psci_platform_safe.proofs.Words.{inl, inr, IsCore, IsLegalOn, le-leb, leb-true, List}
-use Rattle.psci_platform_safe.proofs.Words.{MessageValue, mode_of, mpidr_of, nat_le, Node, number}
-use Rattle.psci_platform_safe.proofs.Words.{Part, part_for, PlatformValue, Record, refl, sent_in}
-use Rattle.psci_platform_safe.proofs.Words.{slice_get, Some, starts_below, subst, suc, SuspendMode}
-use Rattle.psci_platform_safe.proofs.Words.{sym, true, zero, ℕ}
-use Rattle.psci_headline.proofs.Claiming.{by_claim}
-use Rattle.psci_headline.proofs.fw_laws.Passing.{all_one}
-use Rattle.psci_headline.proofs.LiveOnes.{is_live_one}
-use Rattle.psci_headline.specs.Claims.{Claim, asks_by, claim_by, claims}
-use Rattle.psci_headline.specs.psci_board.Board.{below, size_below, up}
-use Rattle.psci_headline.specs.psci_board.Paths.{is_on_path}
-use Rattle.psci_headline.specs.psci_fw_spec.declared.mode.SuspendMode.TheVariants.{Platform}
+use Rattle.std.proofs.lemmas.List.{append-nil, append_assoc, reverse-append}
+use Rattle.psci_headline.specs.Laws.{WasMade}
+use Rattle.psci_headline.specs.Safe.{AlwaysSafe, asks_by, Claim, claim_by, claims, Safe}
+use Rattle.psci_headline.specs.psci_board.Board.{below, is_on_path, size_below, up}
+use Rattle.psci_headline.specs.psci_ctl_spec.Replies.{ack_by, ack_of, may_follow}
+use Rattle.psci_headline.specs.psci_fw_spec.Invariant.{ask}
 use Rattle.psci_headline.specs.psci_fw_spec.declared.mode.SuspendMode.TheVariants.{OsInitiated}
-use Rattle.psci_headline.specs.psci_fw_spec.Views.{ask}
-use Rattle.psci_platform_safe.specs.Asked.{IsAsAsked}
-use Rattle.psci_platform_safe.specs.Words.{numbered}
-use Rattle.psci_platform_safe.proofs.Numbers.{Laws, has_above, number_back, number_inside}
-use Rattle.psci_platform_safe.proofs.Told.{record_for}
+use Rattle.psci_headline.specs.psci_fw_spec.declared.mode.SuspendMode.TheVariants.{Platform}
+use Rattle.psci_headline.specs.psci_messages.declared.kind.Kind.{Kind}
+use Rattle.psci_headline.specs.psci_world_spec.Legal.{ack_in, acks, IsLegalPast, legal}
+use Rattle.psci_headline.specs.psci_world_spec.Legal.{legal_record, sent}
+use Rattle.psci_headline.specs.psci_world_spec.declared.said.Said.TheVariants.{Acked}
+use Rattle.psci_headline.proofs.Claiming.{by_claim}
+use Rattle.psci_headline.proofs.LiveOnes.{is_live_one}
+use Rattle.psci_headline.proofs.fw_laws.Refusing.{all_one}
+use Rattle.psci_platform.specs.psci_fw_laws.Renumbered.{core_by}
+use Rattle.psci_platform_safe.specs.Asked.{IsAsAsked, numbered, run_on, said_for}
+use Rattle.psci_platform_safe.specs.Safe.{AlwaysSafeOn, OffIsDown, SafeOn, StatesWereReal}
+use Rattle.psci_platform_safe.proofs.Moments.{boot_zero, has_above, Laws, number_back}
+use Rattle.psci_platform_safe.proofs.Moments.{number_inside}
+use Rattle.psci_platform_safe.proofs.Told.{entries, hw_is_told, off, record_for}
+use Rattle.psci_platform_safe.proofs.Words.{[], ◌++◌, ◌<◌, ◌==◌, ◌∙◌, ◌∷◌, ◌≡◌, ◌≤◌, ◌⊎◌, AckValue}
+use Rattle.psci_platform_safe.proofs.Words.{AllAsk, ap, AreAsked, AreClaimed, arith, AskFor}
+use Rattle.psci_platform_safe.proofs.Words.{BoardValue, Bool, cond, controller_values, Core, cores}
+use Rattle.psci_platform_safe.proofs.Words.{depth_above, domain_above, eq-eqb, Event, event_after}
+use Rattle.psci_platform_safe.proofs.Words.{false, firmware_values, Fw, height, inl, inr, IsBoard}
+use Rattle.psci_platform_safe.proofs.Words.{IsCore, IsLegalOn, le-leb, leb-true, legal_for, List}
+use Rattle.psci_platform_safe.proofs.Words.{listed, MessageValue, mode_of, mpidr_of, nat_le, Node}
+use Rattle.psci_platform_safe.proofs.Words.{None, number, Option, Part, part_for, PlatformValue}
+use Rattle.psci_platform_safe.proofs.Words.{Record, refl, Said, said_in_numbers, sent_in, slice_get}
+use Rattle.psci_platform_safe.proofs.Words.{Some, starts_below, subst, suc, SuspendMode, sym, true}
+use Rattle.psci_platform_safe.proofs.Words.{zero, ℕ}
+use Rattle.psci_headline.proofs.OnBoards.{always_safe, claims_asked, depths_claimed, hw_off_told}
+use Rattle.psci_headline.proofs.OnBoards.{off_told, standby_told}
+use Rattle.psci_headline.proofs.Runs.{sent_holds}
+use Rattle.psci_headline.proofs.Nexts.{was_made}
+use Rattle.psci_headline.specs.psci_ctl_spec.Values as controlled
+use Rattle.psci_headline.specs.psci_messages.declared.kind.Kind.TheVariants as kinds
 
 -- All cores below a domain ---------------------------------------------------------------------
 
@@ -224,3 +241,170 @@ as_asked p past mpidr level life laws boot claimed asked sound legal is low pres
           from_message p past mpidr level one.life depth laws boot low live.claim live.deep one.live
           sound legal (asked one.life n one.index live.claim has one.at) message
     ])
+
+-- Safety ------------------------------------------------------------------------------------------
+-- A legal history of a platform is safe, by what the laws below say of the firmware and the power
+-- controller behind it.
+
+safe_now : (b : BoardValue) (past : List Record) → AlwaysSafe b past → Safe b past
+safe_now b [] safe = safe
+safe_now b (r ∷ past) safe = safe.0
+
+sound : (p : PlatformValue) → Laws p → AreSound p
+unfolding sent numbered
+sound p laws past r m legal e =
+    let at : slice_get (sent (record_for p past r ∷ numbered p past)) 0 ≡ Some m =
+    ap (λ (o : Option MessageValue). slice_get (listed o ++ sent (numbered p past)) 0) e in
+    ((sent_holds p.board (numbered p (r ∷ past)) laws.board legal).messages 0 m at).sound.core
+
+off_is_down : (p : PlatformValue) (past : List Record) → Laws p → IsLegalOn p past
+    → OffIsDown p past
+unfolding numbered
+off_is_down p [] laws legal = tt
+off_is_down p (r ∷ past) laws legal = λ word level mpidr a asked.
+    off p r past word level mpidr laws
+    (λ n. off_told p.board (record_for p past r) (numbered p past) n laws.board legal) a asked
+
+states_real : (p : PlatformValue) (past : List Record) → Laws p → IsLegalOn p past
+    → StatesWereReal p past
+unfolding numbered
+states_real p [] laws legal = tt
+states_real p (r ∷ past) laws legal = λ word level mpidr asked. (
+  λ a. hw_off_told p.board (record_for p past r) (numbered p past) (domain_above p mpidr level)
+      laws.board legal
+      (hw_is_told p r past word level mpidr 1 laws legal asked a),
+  λ a. standby_told p.board (record_for p past r) (numbered p past) (domain_above p mpidr level)
+      laws.board legal
+      (hw_is_told p r past word level mpidr 2 laws legal asked a),
+)
+
+pub safe_on : (p : PlatformValue) (past : List Record) → Laws p → IsLegalOn p past
+    → SafeOn p past
+unfolding numbered
+safe_on p past laws legal =
+    let now = safe_now p.board (numbered p past)
+    (always_safe p.board (numbered p past) laws.board legal) in
+    record {
+      powered = λ mpidr level is low executing.
+          now.powered (number p mpidr) level (number_inside p mpidr laws is) low executing;
+      off = off_is_down p past laws legal;
+      one = λ mpidr level is low.
+          now.one (domain_above p mpidr level) (has_above p mpidr level laws is low);
+      asked = λ mpidr level life is low present some.
+          as_asked p past mpidr level life laws (boot_zero p laws)
+          (depths_claimed p.board (numbered p past) laws.board legal)
+          (claims_asked p.board (numbered p past) laws.board legal) (sound p laws) legal is low
+          present some;
+      entries = entries p past laws legal;
+      taken = now.entries;
+      states = states_real p past laws legal;
+    }
+
+pub always : (p : PlatformValue) (past : List Record) → Laws p → IsLegalOn p past
+    → AlwaysSafeOn p past
+unfolding numbered
+always p [] laws legal = safe_on p [] laws legal
+always p (r ∷ past) laws legal = (safe_on p (r ∷ past) laws legal, always p past laws legal.1)
+
+-- To each list of events of a platform there is a legal history -----------------------------------
+
+-- Back in numbers -------------------------------------------------------------------------------
+
+core_back : (p : PlatformValue) (c : Core) → Laws p → c.number < cores p.board
+    → core_by (λ level. number p) (core_by (λ level. mpidr_of p) c) ≡ c
+core_back p c laws inside =
+    ap (λ (n : ℕ). record { number = n }) (number_back p c.number laws inside)
+
+-- what is said of cores of the board is the same in the platform's words, and back in numbers
+said_back : (p : PlatformValue) (said : Said) → Laws p
+    → ((m : MessageValue) → sent_in said ≡ Some m → m.core.number < cores p.board)
+    → ((a : AckValue) → ack_in said ≡ Some a → a.core.number < cores p.board)
+    → said_in_numbers p (said_for p said) ≡ said
+said_back p (Fw act None) laws sent made = refl
+said_back p (Fw act (Some s)) laws sent made =
+    ap (λ (c : Core). Fw act (Some (record s { message = record s.message { core = c } })))
+    (core_back p s.message.core laws (sent s.message refl))
+said_back p (Acked index a) laws sent made =
+    ap (λ (c : Core). Acked index (record a { core = c }))
+    (core_back p a.core laws (made a refl))
+said_back p said laws sent made = refl
+
+-- Cores of the board ----------------------------------------------------------------------------
+
+sent_core : (b : BoardValue) (past : List Record) (event : Event) (m : MessageValue) → IsBoard b
+    → IsLegalPast b past → sent_in (legal b past event) ≡ Some m → m.core.number < cores b
+unfolding sent
+sent_core b past event m board is e =
+    ((sent_holds b (legal_record b past event ∷ past) board (refl, is)).messages 0 m
+    (ap (λ (o : Option MessageValue). slice_get (listed o ++ sent past) 0) e)).sound.core
+
+start_core : (m : MessageValue) (t : Bool)
+    → (cond t (ack_of m 1 false) (ack_of m 0 true)).core ≡ m.core
+start_core m true = refl
+start_core m false = refl
+
+ack_core : (b : BoardValue) (v : controlled.Values) (m : MessageValue) (kind : Kind)
+    → (ack_by b v m kind).core ≡ m.core
+ack_core b v m kinds.Down = refl
+ack_core b v m kinds.Start = start_core m (may_follow b v m.core.number m.number)
+ack_core b v m kinds.Off = refl
+ack_core b v m kinds.Reset = refl
+
+made_core : (b : BoardValue) (past : List Record) (a : AckValue) → IsBoard b → WasMade b past a
+    → a.core.number < cores b
+made_core b past a board is =
+    let own : a.core ≡ is.message.core =
+    ap (λ (x : AckValue). x.core) is.ack ∙ ack_core b _ is.message is.message.kind in
+    subst (λ (c : Core). c.number < cores b) (sym own)
+    ((sent_holds b is.before board is.legal).messages is.index is.message is.at).sound.core
+
+acked_core : (b : BoardValue) (past : List Record) (event : Event) (a : AckValue) → IsBoard b
+    → IsLegalPast b past → ack_in (legal b past event) ≡ Some a → a.core.number < cores b
+unfolding acks
+acked_core b past event a board is e =
+    let now = legal_record b past event ∷ past in
+    made_core b now a board
+    (was_made b now (refl, is) 0 a
+    (ap (λ (o : Option AckValue). slice_get (listed o ++ acks past) 0) e))
+
+-- Runs ------------------------------------------------------------------------------------------
+
+-- the record of an event of which that is said which is legal
+abbrev pub told_on : PlatformValue → List Record → Event → Record
+told_on p past event = record { event = event; said = legal_for p past event }
+
+pub stays : (p : PlatformValue) (past : List Record) (events : List Event) → Laws p
+    → IsLegalOn p past → IsLegalOn p (run_on p past events)
+unfolding run_on numbered
+stays p past [] laws is = is
+stays p past (event ∷ events) laws is =
+    let own = event_after p (numbered p past) event in
+    stays p (told_on p past event ∷ past) events laws (
+      said_back p (legal p.board (numbered p past) own) laws
+          (λ m e. sent_core p.board (numbered p past) own m laws.board is e)
+          (λ a e. acked_core p.board (numbered p past) own a laws.board is e),
+      is,
+    )
+
+-- the events of a past, newest first
+abbrev pub events_of : List Record → List Event
+events_of past = map (λ (r : Record). r.event) past
+
+-- the first event comes last
+last_event : (event : Event) (events : List Event) (before : List Event)
+    → reverse (event ∷ events) ++ before ≡ reverse events ++ (event ∷ before)
+last_event event events before =
+    ap (λ (l : List Event). l ++ before) (reverse-append (event ∷ []) events)
+    ∙ append_assoc (reverse events) (event ∷ []) before
+
+has_events : (p : PlatformValue) (past : List Record) (events : List Event)
+    → events_of (run_on p past events) ≡ reverse events ++ events_of past
+unfolding run_on
+has_events p past [] = refl
+has_events p past (event ∷ events) =
+    has_events p (told_on p past event ∷ past) events
+    ∙ sym (last_event event events (events_of past))
+
+pub run_events : (p : PlatformValue) (events : List Event)
+    → events_of (run_on p [] events) ≡ reverse events
+run_events p events = has_events p [] events ∙ append-nil (reverse events)

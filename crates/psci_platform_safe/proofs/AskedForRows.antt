@@ -1,28 +1,26 @@
 -- Worked examples: Downs for which cores had asked, and such for which they had not; histories that
 -- break sentence 3, in which a domain is deeper than the cores below it had asked for: at each
 -- level, in both modes, in life 2 and in a life that is halting.
-use Rattle.std.proofs.Common.{◌++◌, ℕ, List, [], ◌∷◌, inl, inr, refl, arith, ◌≡◌, Some, false}
-use Rattle.std.proofs.Common.{length, subst, sym, take}
+use Rattle.std.proofs.Common.{◌++◌, ◌∷◌, ◌≡◌, [], arith, false, inl, inr, length, List, refl}
+use Rattle.std.proofs.Common.{Some, subst, sym, take, ℕ}
 use Rattle.psci_headline.specs.psci_ctl_spec.Values.{starts_below}
-use Rattle.psci_headline.specs.psci_fw_laws.Claims.{part_for}
-use Rattle.psci_headline.specs.psci_world_spec.Histories.{controller_values, sent_in}
+use Rattle.psci_headline.specs.psci_fw_laws.Messages.{part_for}
+use Rattle.psci_headline.specs.psci_world_spec.Legal.{controller_values, sent_in}
 use Rattle.psci_headline.specs.psci_world_spec.declared.said.Record.{Record}
 use Rattle.psci_platform.specs.Platforms.{PlatformValue}
-use Rattle.psci_platform_safe.specs.Asked.{AskFor, mode_of, WasAskedFor}
-use Rattle.psci_platform_safe.specs.Names.{domain_above, mpidr_of}
-use Rattle.psci_platform_safe.specs.Words.{numbered, said_in_numbers, run_on}
+use Rattle.psci_platform_safe.specs.Asked.{AskFor, domain_above, mode_of, mpidr_of, numbered}
+use Rattle.psci_platform_safe.specs.Asked.{run_on, said_in_numbers, WasAskedFor}
 use Rattle.psci_headline.specs.psci_messages.declared.part.Part.{Part}
 use Rattle.psci_headline.specs.psci_messages.declared.kind.Kind.TheVariants.{Down}
 use Rattle.psci_headline.specs.psci_messages.Message.{MessageValue}
 use Rattle.psci_headline.specs.psci_world_spec.declared.event.Event.{Event}
 use Rattle.psci_headline.specs.psci_world_spec.declared.event.Event.TheVariants.{Deliver, Enter}
 use Rattle.psci_headline.specs.psci_world_spec.declared.event.Event.TheVariants.{Wake}
-use Rattle.psci_headline.proofs.world_spec.Scripts.{call, goes_down, off, part, system_off}
-use Rattle.psci_headline.proofs.world_spec.Scripts.{system_reset, acked}
-use Rattle.psci_platform_safe.proofs.Histories.{after, computing, core_1_on, on_1, on_in_life_2}
-use Rattle.psci_platform_safe.proofs.Histories.{says}
-use Rattle.psci_platform_safe.proofs.Histories.{suspend, tall, tall_on, told, two, on_by_the_system}
-use Rattle.psci_platform_safe.proofs.Histories.{tall_after}
+use Rattle.psci_headline.proofs.world_spec.Scripts.{acked, call, goes_down, off, part}
+use Rattle.psci_headline.proofs.world_spec.Scripts.{system_off, system_reset}
+use Rattle.psci_platform_safe.proofs.Histories.{after, computing, core_1_on, on_1}
+use Rattle.psci_platform_safe.proofs.Histories.{on_by_the_system, on_in_life_2, says, suspend}
+use Rattle.psci_platform_safe.proofs.Histories.{tall, tall_after, tall_on, told, two}
 use Rattle.psci_platform_safe.proofs.Moments.{Beside, OfEach, all_ask, deeper, not_asked_for}
 use Rattle.psci_headline.specs.psci_fw_spec.declared.mode.SuspendMode.TheVariants.{Platform}
 use Rattle.psci_platform_safe.specs.Safe.{NoDeeperThanAsked}

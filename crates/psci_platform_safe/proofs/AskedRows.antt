@@ -8,14 +8,13 @@ use Rattle.psci_headline.specs.psci_world_spec.declared.event.Event.TheVariants.
 use Rattle.psci_headline.specs.psci_world_spec.declared.said.Record.{Record}
 use Rattle.psci_headline.proofs.world_spec.Scripts.{call, off, system_off, value}
 use Rattle.psci_headline.proofs.Tables.{◌⇒◌, Gives}
-use Rattle.psci_platform_safe.specs.Asked.{AllAsk, AskFor, asks, AsksByWord, IsFromStart}
-use Rattle.psci_platform_safe.proofs.Histories.{after, computing, core_1_on, on_1, on_by_the_system}
-use Rattle.psci_platform_safe.proofs.Histories.{suspend, tall, tall_after, tall_on, two, life_2}
-use Rattle.psci_platform_safe.proofs.Histories.{says, told}
+use Rattle.psci_platform_safe.specs.Asked.{AllAsk, AskFor, asks, AsksByWord, IsFromStart, run_on}
+use Rattle.psci_platform_safe.proofs.Histories.{after, computing, core_1_on, life_2, on_1}
+use Rattle.psci_platform_safe.proofs.Histories.{on_by_the_system, says, suspend, tall}
+use Rattle.psci_platform_safe.proofs.Histories.{tall_after, tall_on, told, two}
 use Rattle.psci_platform_safe.proofs.Moments.{all_ask, apart, of_level}
 use Rattle.std.specs.Prelude.{slice_index}
 use Rattle.psci_platform.specs.States.{depth_at}
-use Rattle.psci_platform_safe.specs.Words.{run_on}
 
 -- what a core asks of itself, its cluster and the system after these events
 abbrev asks_after : ℕ × List Event → List ℕ

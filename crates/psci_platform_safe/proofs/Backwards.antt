@@ -1,28 +1,30 @@
 -- What the firmware is asked for a call that names a core or a domain, and what a platform was
 -- asked where the firmware was asked to open an entry point.
-use Rattle.psci_platform_safe.proofs.Words.{◌*◌, ◌+◌, ◌<◌, ◌^◌, ◌∙◌, ◌≡◌, ◌≤◌, ◌⊎◌, [], ap}
-use Rattle.psci_platform_safe.proofs.Words.{argument, arith, BadState, Bool, cases_Bool, cond, Core}
-use Rattle.psci_platform_safe.proofs.Words.{core_inside, core_of, core_word, cores, depth_at}
-use Rattle.psci_platform_safe.proofs.Words.{depths_of, DescriptionValue, eqb-true, false}
-use Rattle.psci_platform_safe.proofs.Words.{first_argument, half_of, height, inl, inr, is_there}
-use Rattle.psci_platform_safe.proofs.Words.{List, None, number, Opening, Option, option_map}
-use Rattle.psci_platform_safe.proofs.Words.{PlatformValue, refl, Regs, regs_for, Request}
-use Rattle.psci_platform_safe.proofs.Words.{request_of, request_with, rest_named, rest_of, Result}
-use Rattle.psci_platform_safe.proofs.Words.{short, Some, states_of, SuspendMode, swap_for, sym}
-use Rattle.psci_platform_safe.proofs.Words.{true, unwrap_or, with_first, word_for, ℕ}
+use Rattle.psci_platform_safe.proofs.Words.{[], ◌*◌, ◌+◌, ◌<◌, ◌^◌, ◌∙◌, ◌≡◌, ◌≤◌, ◌⊎◌, ap}
+use Rattle.psci_platform_safe.proofs.Words.{argument, arith, asks_states, BadState, Bool}
+use Rattle.psci_platform_safe.proofs.Words.{cases_Bool, cond, Core, core_inside, core_of, core_word}
+use Rattle.psci_platform_safe.proofs.Words.{cores, depth_at, depths_of, DescriptionValue, eqb-true}
+use Rattle.psci_platform_safe.proofs.Words.{false, first_argument, half_of, height, inl, inr}
+use Rattle.psci_platform_safe.proofs.Words.{is_there, IsPlatform, List, None, number, Opening}
+use Rattle.psci_platform_safe.proofs.Words.{Option, option_map, PlatformValue, refl, Regs, regs_for}
+use Rattle.psci_platform_safe.proofs.Words.{Request, request_of, request_with, rest_named, rest_of}
+use Rattle.psci_platform_safe.proofs.Words.{Result, short, Some, states_of, SuspendMode, swap_for}
+use Rattle.psci_platform_safe.proofs.Words.{sym, true, unwrap_or, with_first, word_for, ℕ}
 use Rattle.psci_platform.specs.Calls.{regs_for}
 use Rattle.psci_platform.specs.Cores.{word_if}
-use Rattle.psci_platform_safe.proofs.Numbers.{Laws, named_inside}
-use Rattle.psci_headline.specs.psci_abi.declared.request.Request.TheVariants as requests
-use Rattle.std.specs.Prelude.{Ok, Err, slice_index_or}
+use Rattle.psci_platform_safe.proofs.Moments.{Laws, named_inside}
+use Rattle.std.specs.Prelude.{Err, Ok, slice_index_or}
 use Rattle.psci_platform.specs.declared.class.Class.{Class}
-use Rattle.psci_platform.specs.declared.class.Class.TheVariants.{Running, PowerDown}
+use Rattle.psci_platform.specs.declared.class.Class.TheVariants.{PowerDown, Running}
 use Rattle.psci_platform.specs.States.{depth_of}
-use Rattle.psci_headline.specs.psci_abi.declared.format.Format.{Format}
-use Rattle.psci_headline.specs.psci_abi.declared.format.Format.TheVariants.{Extended, Original}
-use Rattle.psci_headline.specs.psci_state.Ask.{deepest_of, is_deep}
-use Rattle.psci_headline.specs.psci_state.PowerState.{ask_of, word_of}
-use Rattle.psci_platform_safe.specs.Opened.{IsPowerDown}
+use Rattle.psci_headline.specs.psci_abi.declared.registers.Format.{Format}
+use Rattle.psci_headline.specs.psci_abi.declared.registers.Format.TheVariants.{Extended, Original}
+use Rattle.psci_headline.specs.psci_state.PowerState.{ask_of, deepest_of, is_deep, word_of}
+use Rattle.psci_platform_safe.specs.Safe.{IsPowerDown}
+use Rattle.psci_platform.proofs.Swaps.{no_function_is_known}
+use Rattle.psci_platform.proofs.OwnStates.{state_laws}
+use Rattle.psci_headline.specs.psci_abi.declared.request.Request.TheVariants as requests
+use Rattle.psci_platform.proofs.OwnStates as asked
 
 -- What is asked ---------------------------------------------------------------------------------
 
@@ -72,12 +74,6 @@ hw_told p mode regs word level laws e there =
     (short regs (core_word p.description p.board p.place word level)
     (core_short p word level laws))
 
--- a function that is not there is called as an unknown one
-abbrev pub AreMissing : PlatformValue → Type 0
-AreMissing p = (mode : SuspendMode) (regs : Regs)
-    → is_there p.description.functions (request_of regs) ≡ false
-    → request_of (regs_for p.description p.board p.place mode regs) ≡ requests.Unknown
-
 -- CPU_ON ----------------------------------------------------------------------------------------
 
 -- A CPU_ON of the firmware is one of the platform, of the core that its word names.
@@ -101,17 +97,17 @@ on_there p mode regs (requests.CpuOn target a x) word address context laws is e 
 on_there p mode regs r word address context laws is e = absurd (cc)
 
 pub on_back : (p : PlatformValue) (mode : SuspendMode) (regs : Regs) (word address context : ℕ)
-    → Laws p → AreMissing p
+    → Laws p
     → request_of (regs_for p.description p.board p.place mode regs)
     ≡ requests.CpuOn word address context → AsksOn p regs word address context
-on_back p mode regs word address context laws missing e =
+on_back p mode regs word address context laws e =
     elim (cases_Bool (is_there p.description.functions (request_of regs))) [
       | inl there ↦
           on_there p mode regs (request_of regs) word address context laws refl
           (sym (told p mode regs (request_of regs) refl there) ∙ e)
       | inr none ↦
           let no : requests.Unknown ≡ requests.CpuOn word address context =
-          sym (missing mode regs none) ∙ e in
+          sym (no_function_is_known p.description p.board p.place mode regs none) ∙ e in
           absurd (cc)
     ]
 
@@ -165,19 +161,23 @@ for_small d format None = omega arith
 for_small d format (Some states) = grind (arith, asking_small, word_small)
 
 -- the states of a word are what the firmware reads in the word that it is asked
-abbrev pub AreRead : PlatformValue → Type 0
-AreRead p = (mode : SuspendMode) (word : ℕ) (states : List ℕ)
-    → states_of p.description mode word ≡ Some states
+pub is_read : (p : PlatformValue) (mode : SuspendMode) (word : ℕ) (states : List ℕ)
+    → IsPlatform p → states_of p.description mode word ≡ Some states
     → ask_of p.board.format (height p.board)
     (word_for p.description p.board.format (states_of p.description mode word))
     ≡ Ok (depths_of p.description states)
+is_read p mode word states is e =
+    asked.told p.description p.board p.boot p.place 0 mode word 0 0 states state_laws is.faultless
+    (ap asks_states e)
 
 -- and it reads none where there are none
-abbrev pub AreNone : PlatformValue → Type 0
-AreNone p = (mode : SuspendMode) (word : ℕ) → states_of p.description mode word ≡ None
+pub none_read : (p : PlatformValue) (mode : SuspendMode) (word : ℕ)
+    → states_of p.description mode word ≡ None
     → ask_of p.board.format (height p.board)
     (word_for p.description p.board.format (states_of p.description mode word))
     ≡ Err (record {})
+none_read p mode word e =
+    asked.silent p.description p.board p.place 0 mode word 0 0 (ap asks_states e)
 
 opening_if : (t : Bool) (own o : Opening) → cond t (Some own) None ≡ Some o
     → (t ≡ true) × (own ≡ o)
@@ -193,24 +193,25 @@ AsksSuspend p mode regs o =
 
 -- CPU_SUSPEND: the word's states power down the core
 suspend_if : (p : PlatformValue) (mode : SuspendMode) (regs : Regs) (word a x : ℕ) (o : Opening)
-    (states : Option (List ℕ)) → AreRead p → AreNone p
+    (states : Option (List ℕ)) → IsPlatform p
     → request_of regs ≡ requests.CpuSuspend word a x
     → states_of p.description mode word ≡ states
     → (rest_named (record { address = a; context = x })
     (ask_of p.board.format (height p.board)
     (word_for p.description p.board.format (states_of p.description mode word)))).opening ≡ Some o
     → AsksSuspend p mode regs o
-suspend_if p mode regs word a x o None read none is e at =
+suspend_if p mode regs word a x o None own is e at =
     let no : None ≡ Some o =
     ap (λ (r : Result (List ℕ) BadState).
-    (rest_named (record { address = a; context = x }) r).opening) (sym (none mode word e)) ∙ at in
+    (rest_named (record { address = a; context = x }) r).opening)
+    (sym (none_read p mode word e)) ∙ at in
     absurd (cc)
-suspend_if p mode regs word a x o (Some states) read none is e at =
+suspend_if p mode regs word a x o (Some states) own is e at =
     let here : (rest_named (record { address = a; context = x })
     (Ok (depths_of p.description states))).opening ≡ Some o =
     ap (λ (r : Result (List ℕ) BadState).
-    (rest_named (record { address = a; context = x }) r).opening) (sym (read mode word states e))
-    ∙ at in
+    (rest_named (record { address = a; context = x }) r).opening)
+    (sym (is_read p mode word states own e)) ∙ at in
     let both = opening_if (is_deep (depths_of p.description states))
     (record { address = a; context = x }) o here in
     inl (
@@ -225,37 +226,38 @@ system_first : (regs : Regs) (a x : ℕ) → request_of regs ≡ requests.System
 system_first regs a x is = grind (arith, request_with)
 
 suspend_there : (p : PlatformValue) (mode : SuspendMode) (regs : Regs) (r : Request) (o : Opening)
-    → AreRead p → AreNone p → request_of regs ≡ r
+    → IsPlatform p → request_of regs ≡ r
     → (rest_of p.board (with_first (argument regs
     (first_argument p.description p.board p.place mode regs.x1 r)) r)).opening ≡ Some o
     → AsksSuspend p mode regs o
-suspend_there p mode regs (requests.CpuSuspend word a x) o read none is at =
+suspend_there p mode regs (requests.CpuSuspend word a x) o own is at =
     let w = word_for p.description p.board.format (states_of p.description mode word) in
-    suspend_if p mode regs word a x o (states_of p.description mode word) read none is refl
+    suspend_if p mode regs word a x o (states_of p.description mode word) own is refl
     (ap (λ (k : ℕ). (rest_named (record { address = a; context = x })
     (ask_of p.board.format (height p.board) k)).opening)
     (sym (half_of regs w
     (for_small p.description p.board.format (states_of p.description mode word)))) ∙ at)
-suspend_there p mode regs (requests.SystemSuspend a x) o read none is at =
+suspend_there p mode regs (requests.SystemSuspend a x) o own is at =
     let both = opening_if (is_deep (deepest_of (height p.board)))
     (record { address = argument regs regs.x1; context = x }) o at in
     inr (is
     ∙ ap (λ (k : ℕ). requests.SystemSuspend k x) (system_first regs a x is)
     ∙ ap (λ (q : Opening). requests.SystemSuspend q.address q.context) both.1)
-suspend_there p mode regs r o read none is at = absurd (cc)
+suspend_there p mode regs r o own is at = absurd (cc)
 
-pub suspend_back : (p : PlatformValue) (mode : SuspendMode) (regs : Regs) (o : Opening) → AreRead p
-    → AreNone p → AreMissing p
+pub suspend_back : (p : PlatformValue) (mode : SuspendMode) (regs : Regs) (o : Opening)
+    → IsPlatform p
     → (rest_of p.board (request_of (regs_for p.description p.board p.place mode regs))).opening
     ≡ Some o → AsksSuspend p mode regs o
-suspend_back p mode regs o read none missing at =
+suspend_back p mode regs o own at =
     elim (cases_Bool (is_there p.description.functions (request_of regs))) [
       | inl there ↦
-          suspend_there p mode regs (request_of regs) o read none refl
+          suspend_there p mode regs (request_of regs) o own refl
           (ap (λ (q : Request). (rest_of p.board q).opening)
           (sym (told p mode regs (request_of regs) refl there)) ∙ at)
       | inr lacks ↦
           let no : None ≡ Some o =
-          ap (λ (q : Request). (rest_of p.board q).opening) (sym (missing mode regs lacks)) ∙ at in
+          ap (λ (q : Request). (rest_of p.board q).opening)
+          (sym (no_function_is_known p.description p.board p.place mode regs lacks)) ∙ at in
           absurd (cc)
     ]

@@ -1,14 +1,13 @@
 -- Worked examples: moments of legal runs at which sentences 1, 2 and 5 hold: on the platform of
 -- three levels, in both modes, in life 2, and in a life that is halting.
 use Rattle.std.proofs.Common.{◌++◌, List, [], ◌∷◌, inl, inr, refl, arith}
-use Rattle.psci_headline.specs.ToldHw.{WasSoDeep, is_off_depth, is_standby_depth}
+use Rattle.psci_headline.specs.Laws.{WasSoDeep, is_off_depth, is_standby_depth}
 use Rattle.psci_headline.specs.psci_world_spec.declared.event.Event.TheVariants.{Deliver, Enter}
 use Rattle.psci_headline.specs.psci_world_spec.declared.event.Event.TheVariants.{Take, Wake}
 use Rattle.psci_headline.specs.psci_world_spec.declared.said.Record.{Record}
 use Rattle.psci_headline.proofs.world_spec.Scripts.{off, system_off}
-use Rattle.psci_platform_safe.specs.Names.{domain_above}
+use Rattle.psci_platform_safe.specs.Asked.{domain_above, numbered}
 use Rattle.psci_platform_safe.specs.Safe.{IsOff, NoneBelowSleeping, OneLiveClaim}
-use Rattle.psci_platform_safe.specs.Words.{numbered}
 use Rattle.psci_platform_safe.proofs.Histories.{after, computing, core_1_off, core_1_on}
 use Rattle.psci_platform_safe.proofs.Histories.{on_by_the_system, on_in_life_2, suspend, tall}
 use Rattle.psci_platform_safe.proofs.Histories.{tall_after, tall_in_life_2, tall_on, two}

@@ -4,16 +4,17 @@ use Rattle.psci_platform.specs.Platforms.{IsPlatform, PlatformValue}
 use Rattle.psci_headline.specs.psci_messages.declared.kind.Kind.TheVariants.{Down, Start}
 use Rattle.psci_headline.specs.psci_world_spec.declared.event.Event.{Event}
 use Rattle.psci_headline.specs.psci_world_spec.declared.event.Event.TheVariants.{Deliver, Enter}
-use Rattle.psci_headline.specs.psci_world_spec.declared.event.Event.TheVariants.{Reset, Take, Wake}
+use Rattle.psci_headline.specs.psci_world_spec.declared.event.Event.TheVariants.{Reset, Take}
+use Rattle.psci_headline.specs.psci_world_spec.declared.event.Event.TheVariants.{Wake}
 use Rattle.psci_headline.specs.psci_world_spec.declared.said.Record.{Record}
 use Rattle.psci_headline.specs.psci_world_spec.declared.said.Said.{Said}
 use Rattle.psci_headline.proofs.world_spec.Scripts.{acked, asks_on, enters, goes_down, off, on_3}
-use Rattle.psci_headline.proofs.world_spec.Scripts.{part, used, value, resumes, started}
+use Rattle.psci_headline.proofs.world_spec.Scripts.{part, resumes, started, used, value}
 use Rattle.psci_headline.proofs.Tables.{◌⇒◌, Gives}
-use Rattle.psci_platform_safe.specs.Names.{IsAskedOf, IsCore, mpidr_of, number, domain_above}
-use Rattle.psci_platform_safe.specs.Words.{IsLegalOn, numbered, run_on}
-use Rattle.psci_platform_safe.proofs.Histories.{after, computing, core_1_off, core_1_on, on_1, says}
-use Rattle.psci_platform_safe.proofs.Histories.{status_of, two, state_of, suspend, tall}
+use Rattle.psci_platform_safe.specs.Asked.{domain_above, IsAskedOf, IsCore, IsLegalOn, mpidr_of}
+use Rattle.psci_platform_safe.specs.Asked.{number, numbered, run_on}
+use Rattle.psci_platform_safe.proofs.Histories.{after, computing, core_1_off, core_1_on, on_1}
+use Rattle.psci_platform_safe.proofs.Histories.{says, state_of, status_of, suspend, tall, two}
 use Rattle.psci_headline.specs.psci_messages.declared.start.Cause.TheVariants as causes
 
 are_platforms : IsPlatform two × IsPlatform tall

@@ -1,20 +1,13 @@
 -- In the order of the argument.
-pub mod Numbers
+pub mod Moments
 pub mod Told
 pub mod AskedFor
-pub mod Safety
-pub mod Runs
-pub mod Calling
+pub mod Histories
 pub mod Backwards
 pub mod Waiting
 pub mod Records
-pub mod Entries
-pub mod Entering
 pub mod Suspended
 -- Worked examples.
-pub mod Histories
-mod Moments
-mod Openings
 mod LegalRows
 mod HoldsRows
 mod WaitRows

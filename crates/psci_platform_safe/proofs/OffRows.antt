@@ -2,19 +2,19 @@
 -- in which what AFFINITY_INFO says is OFF is not: at each level, in both modes, in life 2 and in a
 -- life that is halting.
 use Rattle.std.proofs.Common.{◌≡◌, ◌++◌, [], ◌∷◌, true, false, refl, ℕ, pos, Option}
-use Rattle.psci_headline.specs.psci_world_spec.declared.event.Event.TheVariants.{Deliver, Enter}
-use Rattle.psci_headline.specs.psci_world_spec.declared.event.Event.TheVariants.{Wake, Call}
+use Rattle.psci_headline.specs.psci_world_spec.declared.event.Event.TheVariants.{Call, Deliver}
+use Rattle.psci_headline.specs.psci_world_spec.declared.event.Event.TheVariants.{Enter, Wake}
 use Rattle.psci_headline.proofs.world_spec.Scripts.{off, value, system_off}
 use Rattle.psci_platform_safe.specs.Safe.{IsOff, Answers, OffIsDown}
-use Rattle.psci_platform_safe.proofs.Histories.{after, computing, core_1_on, on_in_life_2, says}
-use Rattle.psci_platform_safe.proofs.Histories.{status_of, suspend, tall, tall_after, tall_on, two}
-use Rattle.psci_platform_safe.proofs.Histories.{on_by_the_system}
+use Rattle.psci_platform_safe.proofs.Histories.{after, computing, core_1_on, on_by_the_system}
+use Rattle.psci_platform_safe.proofs.Histories.{on_in_life_2, says, status_of, suspend, tall}
+use Rattle.psci_platform_safe.proofs.Histories.{tall_after, tall_on, two}
 use Rattle.psci_headline.specs.psci_abi.Calls.{request_of}
 use Rattle.psci_headline.specs.psci_abi.declared.registers.Regs.{Regs}
 use Rattle.psci_headline.specs.psci_abi.declared.request.Request.{Request}
 use Rattle.psci_headline.specs.psci_world_spec.declared.said.Said.TheVariants.{Fw}
 use Rattle.psci_headline.specs.psci_world_spec.declared.said.Sent.{Sent}
-use Rattle.psci_platform_safe.specs.Names.{IsAskedOf}
+use Rattle.psci_platform_safe.specs.Asked.{IsAskedOf}
 use Rattle.psci_headline.specs.psci_fw_spec.declared.outcome.Act.TheVariants as acts
 
 is_not_off :

@@ -1,29 +1,27 @@
 -- What a core asks that a word has suspended: the depths of the word's states.
 use Rattle.psci_platform_safe.proofs.Words.{◌==◌, ◌∙◌, ◌∷◌, ◌≡◌, ◌≤◌, ap, arith, BadState}
 use Rattle.psci_platform_safe.proofs.Words.{BoardValue, Bool, Call, cases_Bool, change, Code, cond}
-use Rattle.psci_platform_safe.proofs.Words.{depth_at, depths_of, DescriptionValue, eq-eqb, Event}
-use Rattle.psci_platform_safe.proofs.Words.{false, firmware_values, function_effect, Fw, FwFault}
-use Rattle.psci_platform_safe.proofs.Words.{half_of, height, inl, inr, is_there, IsBoard, IsLegalOn}
-use Rattle.psci_platform_safe.proofs.Words.{le-leb, List, MessageValue, mode_of, NoCore, NoLife}
-use Rattle.psci_platform_safe.proofs.Words.{None, not, number, Option, Outcome, outcome_in}
+use Rattle.psci_platform_safe.proofs.Words.{depth_at, depths_of, DescriptionValue, eq-eqb, false}
+use Rattle.psci_platform_safe.proofs.Words.{firmware_values, function_effect, Fw, FwFault, half_of}
+use Rattle.psci_platform_safe.proofs.Words.{height, inl, inr, is_there, IsBoard, IsLegalOn}
+use Rattle.psci_platform_safe.proofs.Words.{IsPlatform, le-leb, List, MessageValue, mode_of, NoCore}
+use Rattle.psci_platform_safe.proofs.Words.{NoLife, None, not, number, Option, Outcome, outcome_in}
 use Rattle.psci_platform_safe.proofs.Words.{PlatformValue, Record, refl, Regs, reply_or, request_of}
-use Rattle.psci_platform_safe.proofs.Words.{rest_named, Result, Said, Sent, sent_in_numbers}
-use Rattle.psci_platform_safe.proofs.Words.{slice_index, Some, states_of, stops, suc, sym, true}
-use Rattle.psci_platform_safe.proofs.Words.{Values, word_for, zero, ℕ}
+use Rattle.psci_platform_safe.proofs.Words.{rest_named, Result, Sent, sent_in_numbers, slice_index}
+use Rattle.psci_platform_safe.proofs.Words.{Some, states_of, stops, suc, sym, true, Values}
+use Rattle.psci_platform_safe.proofs.Words.{word_for, zero, ℕ}
 use Rattle.psci_headline.specs.psci_fw_spec.declared.fault.FwFault.TheVariants.{NotRunning}
-use Rattle.psci_headline.specs.psci_fw_spec.Answer.{answer}
-use Rattle.psci_headline.specs.psci_fw_spec.Calls.{outcome_of}
-use Rattle.psci_headline.specs.psci_fw_spec.CpuSuspend.{suspend_asked}
-use Rattle.psci_headline.specs.psci_fw_spec.Outcomes.{returns}
-use Rattle.psci_headline.specs.psci_fw_spec.Phases.{Phase, Running, Suspended, activity_of}
-use Rattle.psci_headline.specs.psci_fw_spec.Phases.{is_running, unless_pending}
+use Rattle.psci_headline.specs.psci_fw_spec.Answer.{answer, outcome_of}
+use Rattle.psci_headline.specs.psci_fw_spec.PowerCalls.{returns, suspend_asked}
+use Rattle.psci_headline.specs.psci_fw_spec.Phases.{activity_of, is_running, Phase, Running}
+use Rattle.psci_headline.specs.psci_fw_spec.Phases.{Suspended, unless_pending}
 use Rattle.psci_headline.specs.psci_state.Cores.{asks}
-use Rattle.psci_headline.specs.psci_world_spec.Histories.{firmware_history}
-use Rattle.psci_platform_safe.specs.Asked.{AsksByWord}
-use Rattle.psci_platform_safe.specs.Words.{numbered}
-use Rattle.psci_platform_safe.proofs.Backwards.{AreMissing, AreNone, AreRead, for_small, told}
-use Rattle.psci_platform_safe.proofs.Records.{effect_in, legal_record, message_in, outcome_is}
-use Rattle.psci_platform_safe.proofs.Records.{regs_in, values_with}
+use Rattle.psci_headline.specs.psci_world_spec.Legal.{firmware_history}
+use Rattle.psci_platform_safe.specs.Asked.{AsksByWord, numbered}
+use Rattle.psci_platform_safe.proofs.Backwards.{for_small, is_read, none_read, told}
+use Rattle.psci_platform_safe.proofs.Records.{effect_now, legal_record, message_in, outcome_is}
+use Rattle.psci_platform_safe.proofs.Records.{regs_in}
+use Rattle.psci_platform.proofs.Swaps.{no_function_is_known}
 use Rattle.psci_headline.specs.psci_abi.declared.request.Request.TheVariants as requests
 use Rattle.psci_headline.specs.psci_fw_spec.declared.call.FwCall.TheVariants as calls
 use Rattle.psci_headline.specs.psci_fw_spec.declared.outcome.Act.TheVariants as acts
@@ -75,10 +73,7 @@ phase_is c false before depths same is = absurd (cc)
 
 module _ (p : PlatformValue) (r : Record) (older : List Record) (regs : Regs)
     (mpidr word entry context : ℕ) (sent : Sent) (board : IsBoard p.board)
-    (missing : AreMissing p) (read : AreRead p) (none : AreNone p)
-    (now : (event : Event) (said : Said) → values_with p older event said
-    ≡ change p.board (effect_in p older event said)
-    (firmware_values p.board (numbered p older)))
+    (own_words : IsPlatform p)
     (valid : IsLegalOn p (r ∷ older)) (event : r.event ≡ Call mpidr regs)
     (asked : request_of regs ≡ requests.CpuSuspend word entry context)
     (said : r.said ≡ Fw acts.Stop (Some sent)) where
@@ -110,7 +105,8 @@ module _ (p : PlatformValue) (r : Record) (older : List Record) (regs : Regs)
     | inl found ↦ found
     | inr lacks ↦
         absurd (no_stop own _ v.halting _ refl refl
-        (out ∙ ap (outcome_of p.board v c) (missing (mode_of p older) regs lacks)))
+        (out ∙ ap (outcome_of p.board v c)
+        (no_function_is_known p.description p.board p.place (mode_of p older) regs lacks)))
   ]
 
   request : request_of (regs_in p older regs) ≡ requests.CpuSuspend asks_word entry context
@@ -125,7 +121,7 @@ module _ (p : PlatformValue) (r : Record) (older : List Record) (regs : Regs)
       ≡ change p.board (function_effect p.board c (requests.CpuSuspend asks_word entry context)
       acts.Stop (message_in p (Some sent))) v
   unfolding numbered firmware_history
-  values = grind (arith, now, event, said, request)
+  values = grind (arith, effect_now, event, said, request)
 
   by_states : (o : Option (List ℕ)) → states_of p.description (mode_of p older) word ≡ o
       → AsksByWord p r older mpidr word
@@ -134,14 +130,14 @@ module _ (p : PlatformValue) (r : Record) (older : List Record) (regs : Regs)
       absurd (no_stop own _ v.halting _ refl refl
       (out ∙ ap (outcome_of p.board v c) request
       ∙ ap (λ (x : Result (List ℕ) BadState). cond v.halting stops
-      (suspend_asked p.board v c entry x)) (none (mode_of p older) word e)))
+      (suspend_asked p.board v c entry x)) (none_read p (mode_of p older) word e)))
   by_states (Some states) e =
       let depths = depths_of p.description states in
       let phase : (firmware_values p.board (numbered p (r ∷ older))).phase c ≡ Suspended depths =
       ap (λ (u : Values). u.phase c) values
       ∙ ap (λ (x : Result (List ℕ) BadState). cond (c == c) (unless_pending (v.phase c)
       (rest_named (record { address = entry; context = context }) x).phase) (v.phase c))
-      (read (mode_of p older) word states e)
+      (is_read p (mode_of p older) word states own_words e)
       ∙ phase_is c (c == c) (v.phase c) depths (eq-eqb c c refl)
       (ran p.board v c (regs_in p older regs) own replied) in
       record {

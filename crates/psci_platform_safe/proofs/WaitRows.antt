@@ -9,13 +9,13 @@ use Rattle.psci_headline.specs.psci_world_spec.declared.said.Record.{Record}
 use Rattle.psci_headline.proofs.world_spec.Scripts.{asks_on, call, enters, error, goes_down}
 use Rattle.psci_headline.proofs.world_spec.Scripts.{nothing, part, resumes, returns, system_off}
 use Rattle.psci_headline.proofs.world_spec.Scripts.{system_reset}
-use Rattle.psci_platform_safe.specs.Opened.{ByCpuOn, BySuspend, IsPowerDown, NoneEnters}
-use Rattle.psci_platform_safe.specs.Opened.{boot_opening, OneEntryEach, Waits}
-use Rattle.psci_platform_safe.proofs.Histories.{computing, on_1, suspend, tall, two, after}
-use Rattle.psci_platform_safe.proofs.Histories.{core_1_on, on_by_the_system, says, tall_after}
-use Rattle.psci_platform_safe.proofs.Histories.{tall_on, told}
-use Rattle.psci_platform_safe.proofs.Openings.{at, by_cpu_on, by_word, never_enters, never_waits}
-use Rattle.psci_platform_safe.proofs.Openings.{none_enters, waits_now, waits_since, woken}
+use Rattle.psci_platform_safe.specs.Safe.{boot_opening, ByCpuOn, BySuspend, IsPowerDown}
+use Rattle.psci_platform_safe.specs.Safe.{NoneEnters, OneEntryEach, Waits}
+use Rattle.psci_platform_safe.proofs.Histories.{after, computing, core_1_on, on_1}
+use Rattle.psci_platform_safe.proofs.Histories.{on_by_the_system, says, suspend, tall}
+use Rattle.psci_platform_safe.proofs.Histories.{tall_after, tall_on, told, two}
+use Rattle.psci_platform_safe.proofs.Waiting.{at, by_cpu_on, by_word, never_enters, never_waits}
+use Rattle.psci_platform_safe.proofs.Waiting.{none_enters, waits_now, waits_since, woken}
 
 -- the boot core asks core 1 on
 abbrev asked_on : Record

@@ -6,34 +6,27 @@ pub use Rattle.std.proofs.lemmas.Bool.{cases_Bool, eq-eqb, eqb-true, le-leb, leb
 pub use Rattle.std.specs.Prelude.{nat_le, nat_lt, Result, slice_get, slice_index, unwrap_or}
 pub use Rattle.psci_headline.proofs.world_spec.Answered.{firmware_legal}
 pub use Rattle.psci_headline.proofs.world_spec.Scripts.{system_reset}
-pub use Rattle.psci_headline.specs.Live.{AreAsked, AreClaimed}
-pub use Rattle.psci_headline.specs.ToldHw.{told_hw}
-pub use Rattle.psci_headline.specs.ToldOff.{AllOff, told_off}
-pub use Rattle.psci_headline.specs.psci_abi.Calls.{argument, request_of}
-pub use Rattle.psci_headline.specs.psci_abi.Codes.{success}
-pub use Rattle.psci_headline.specs.psci_abi.declared.code.Code.{Code}
+pub use Rattle.psci_headline.specs.Laws.{AllOff, AreAsked, AreClaimed, told_hw, told_off}
+pub use Rattle.psci_headline.specs.psci_abi.Calls.{argument, request_of, success}
+pub use Rattle.psci_headline.specs.psci_abi.declared.registers.Code.{Code}
 pub use Rattle.psci_headline.specs.psci_abi.declared.registers.Regs.{Regs}
 pub use Rattle.psci_headline.specs.psci_abi.declared.request.Request.{Request}
 pub use Rattle.psci_headline.specs.psci_board.Board.{BoardValue, core_of, cores, height, IsBoard}
-pub use Rattle.psci_headline.specs.psci_board.Board.{node_of, up}
-pub use Rattle.psci_headline.specs.psci_board.Laws.{PathLaws, WordLaws}
-pub use Rattle.psci_headline.specs.psci_board.declared.node.Core.{Core}
-pub use Rattle.psci_headline.specs.psci_board.declared.node.Node.{Node}
+pub use Rattle.psci_headline.specs.psci_board.Board.{node_of, PathLaws, up, WordLaws}
+pub use Rattle.psci_headline.specs.psci_board.declared.draft.Core.{Core}
+pub use Rattle.psci_headline.specs.psci_board.declared.draft.Node.{Node}
 pub use Rattle.psci_headline.specs.psci_ctl_spec.Replies.{last_start}
 pub use Rattle.psci_headline.specs.psci_ctl_spec.Values.{starts_below}
-pub use Rattle.psci_headline.specs.psci_fw_laws.Claims.{part_for}
-pub use Rattle.psci_headline.specs.psci_fw_laws.Kept.{Holds}
-pub use Rattle.psci_headline.specs.psci_fw_spec.After.{change}
-pub use Rattle.psci_headline.specs.psci_fw_spec.Answer.{reply_or}
-pub use Rattle.psci_headline.specs.psci_fw_spec.Calls.{outcome_of}
-pub use Rattle.psci_headline.specs.psci_fw_spec.Changes.{PowerOn, Rest, target}
-pub use Rattle.psci_headline.specs.psci_fw_spec.Effects.{AsksOn, Effect, enter_effect}
-pub use Rattle.psci_headline.specs.psci_fw_spec.Effects.{function_effect, GoesOn, Nothing}
-pub use Rattle.psci_headline.specs.psci_fw_spec.Effects.{rest_named, rest_of, Rests}
+pub use Rattle.psci_headline.specs.psci_fw_laws.Messages.{part_for}
+pub use Rattle.psci_headline.specs.psci_fw_spec.Effects.{arrived, AsksOn, change, Effect}
+pub use Rattle.psci_headline.specs.psci_fw_spec.Effects.{enter_effect, function_effect, GoesOn}
+pub use Rattle.psci_headline.specs.psci_fw_spec.Effects.{listed, Nothing, rest_named, rest_of}
+pub use Rattle.psci_headline.specs.psci_fw_spec.Effects.{Rests}
+pub use Rattle.psci_headline.specs.psci_fw_spec.Answer.{outcome_of, reply_or}
+pub use Rattle.psci_headline.specs.psci_fw_spec.Changes.{first_opening, in_life, PowerOn, Rest}
+pub use Rattle.psci_headline.specs.psci_fw_spec.Changes.{start_of_life, target}
 pub use Rattle.psci_headline.specs.psci_fw_spec.Legal.{IsLegal}
-pub use Rattle.psci_headline.specs.psci_fw_spec.Lives.{first_opening, in_life, start_of_life}
-pub use Rattle.psci_headline.specs.psci_fw_spec.Outcomes.{stops}
-pub use Rattle.psci_headline.specs.psci_fw_spec.Said.{arrived, listed}
+pub use Rattle.psci_headline.specs.psci_fw_spec.PowerCalls.{stops}
 pub use Rattle.psci_headline.specs.psci_fw_spec.Values.{Values}
 pub use Rattle.psci_headline.specs.psci_fw_spec.declared.fault.FwFault.{FwFault}
 pub use Rattle.psci_headline.specs.psci_fw_spec.declared.fault.FwFault.TheVariants.{NoCore, NoLife}
@@ -46,12 +39,10 @@ pub use Rattle.psci_headline.specs.psci_messages.declared.part.Part.{Part}
 pub use Rattle.psci_headline.specs.psci_messages.declared.start.Start.{Start}
 pub use Rattle.psci_headline.specs.psci_messages.declared.taken.Taken.{Taken}
 pub use Rattle.psci_headline.specs.psci_state.declared.fault.BadState.{BadState}
-pub use Rattle.psci_headline.specs.psci_world_spec.Histories.{acks, call, controller_values}
-pub use Rattle.psci_headline.specs.psci_world_spec.Histories.{firmware_history, firmware_values}
-pub use Rattle.psci_headline.specs.psci_world_spec.Histories.{outcome_in, sent_in}
-pub use Rattle.psci_headline.specs.psci_world_spec.Legal.{if_started}
-pub use Rattle.psci_headline.specs.psci_world_spec.Lists.{indexed}
-pub use Rattle.psci_headline.specs.psci_world_spec.Places.{place}
+pub use Rattle.psci_headline.specs.psci_world_spec.Legal.{acks, call, controller_values}
+pub use Rattle.psci_headline.specs.psci_world_spec.Legal.{firmware_values}
+pub use Rattle.psci_headline.specs.psci_world_spec.Legal.{if_started, indexed, outcome_in, place}
+pub use Rattle.psci_headline.specs.psci_world_spec.Legal.{sent_in}
 pub use Rattle.psci_headline.specs.psci_world_spec.declared.event.Event.{Event}
 pub use Rattle.psci_headline.specs.psci_world_spec.declared.event.Event.TheVariants.{Call, Deliver}
 pub use Rattle.psci_headline.specs.psci_world_spec.declared.event.Event.TheVariants.{Enter, Take}
@@ -61,7 +52,7 @@ pub use Rattle.psci_headline.specs.psci_world_spec.declared.said.Record.{Record}
 pub use Rattle.psci_headline.specs.psci_world_spec.declared.said.Said.{Said}
 pub use Rattle.psci_headline.specs.psci_world_spec.declared.said.Said.TheVariants.{Absent, Fw}
 pub use Rattle.psci_headline.specs.psci_world_spec.declared.said.Sent.{Sent}
-pub use Rattle.psci_platform.proofs.Requests.{half_of, request_with, short, with_first}
+pub use Rattle.psci_platform.proofs.Swaps.{half_of, request_with, short, with_first}
 pub use Rattle.psci_platform.proofs.Named.{found}
 pub use Rattle.psci_platform.proofs.Swapped.{core_inside}
 pub use Rattle.psci_platform.specs.Calls.{asks_states, first_argument, is_there, regs_for}
@@ -71,10 +62,9 @@ pub use Rattle.psci_platform.specs.Platforms.{IsPlatform, PlatformValue}
 pub use Rattle.psci_platform.specs.States.{depth_at, depths_of, states_of, word_for}
 pub use Rattle.psci_platform.specs.Swaps.{swap_for}
 pub use Rattle.psci_platform.specs.psci_fw_laws.Renumbered.{IsRenumbering}
-pub use Rattle.psci_platform_safe.specs.Asked.{AllAsk, AskFor, depth_above, life_of, mode_of}
-pub use Rattle.psci_platform_safe.specs.Names.{domain_above, IsAskedOf, IsCore, mpidr_of, number}
-pub use Rattle.psci_platform_safe.specs.Opened.{boot_opening, NoneEnters, OneEntryEach, Opens}
-pub use Rattle.psci_platform_safe.specs.Opened.{Waits}
-pub use Rattle.psci_platform_safe.specs.Safe.{NoDeeperThanAsked, NoneBelowSleeping, OneLiveClaim}
-pub use Rattle.psci_platform_safe.specs.Words.{event_after, IsLegalOn, legal_for, numbered}
-pub use Rattle.psci_platform_safe.specs.Words.{said_in_numbers, sent_in_numbers}
+pub use Rattle.psci_platform_safe.specs.Asked.{AllAsk, AskFor, depth_above, domain_above}
+pub use Rattle.psci_platform_safe.specs.Asked.{event_after, IsAskedOf, IsCore, IsLegalOn, legal_for}
+pub use Rattle.psci_platform_safe.specs.Asked.{life_of, mode_of, mpidr_of, number, numbered}
+pub use Rattle.psci_platform_safe.specs.Asked.{said_in_numbers, sent_in_numbers}
+pub use Rattle.psci_platform_safe.specs.Safe.{boot_opening, NoDeeperThanAsked, NoneBelowSleeping}
+pub use Rattle.psci_platform_safe.specs.Safe.{NoneEnters, OneEntryEach, OneLiveClaim, Opens, Waits}

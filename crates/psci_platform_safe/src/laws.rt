@@ -12,18 +12,9 @@ ghost use Rattle.psci_headline.specs.psci_world_spec.declared.event.Event.TheVar
 ghost use Rattle.psci_headline.specs.psci_world_spec.declared.said.Record.{Record};
 ghost use Rattle.psci_headline.specs.psci_world_spec.declared.said.Said.TheVariants.{Fw};
 ghost use Rattle.psci_headline.specs.psci_world_spec.declared.said.Sent.{Sent};
-ghost use Rattle.psci_platform_safe.specs.Asked.{AsksByWord};
-ghost use Rattle.psci_platform_safe.specs.Names.{IsCore, mpidr_of, number};
-ghost use Rattle.psci_platform_safe.specs.Opened.{OneEntryEach};
-ghost use Rattle.psci_platform_safe.specs.Safe.{AlwaysSafeOn};
-ghost use Rattle.psci_platform_safe.specs.Words.{IsLegalOn, run_on};
-
-use psci_board::law_words;
-use psci_headline::{
-    law_acknowledged, law_asked_claims, law_claimed_depths, law_kept, law_paths, law_power_on,
-    law_safe, law_sent, law_told_hw, law_told_off, law_values,
-};
-use psci_platform::{law_asked, law_boot_core, law_missing, law_mpidrs, law_named};
+ghost use Rattle.psci_platform_safe.specs.Asked.{AsksByWord, IsCore, IsLegalOn, mpidr_of, number};
+ghost use Rattle.psci_platform_safe.specs.Asked.{run_on};
+ghost use Rattle.psci_platform_safe.specs.Safe.{AlwaysSafeOn, OneEntryEach};
 
 /// The firmware's numbers and the MPIDRs of a platform's cores name each other, and the boot core
 /// has number 0.
@@ -35,13 +26,7 @@ pub fn law_numbers()
         → c < cores p.board → IsCore p (mpidr_of p c) × (number p (mpidr_of p c) ≡ c) }
     ensures boot { (p : PlatformValue) → IsBoard p.board → IsPlatform p
         → IsCore p p.boot × (number p p.boot ≡ 0) }
-{
-    law_paths();
-    law_words();
-    law_mpidrs();
-    law_named();
-    law_boot_core();
-}
+{}
 
 /// Each list of events of a platform has a legal history: the one in which of each event that is
 /// said which the firmware and the power controller say of it, with MPIDRs for their cores.
@@ -50,16 +35,7 @@ pub fn law_runs_on()
         → IsLegalOn p (run_on p [] events) }
     ensures events { (p : PlatformValue) (events : List Event)
         → map (λ r. r.event) (run_on p [] events) ≡ reverse events }
-{
-    law_paths();
-    law_words();
-    law_mpidrs();
-    law_named();
-    law_boot_core();
-    law_kept();
-    law_sent();
-    law_acknowledged();
-}
+{}
 
 /// In a legal history of a platform each entry at an opening takes up one that waited for its core:
 /// an accepted CPU_ON of its MPIDR, its own suspend by a word that powers it down, or its own
@@ -69,17 +45,7 @@ pub fn law_runs_on()
 pub fn law_one_entry_on()
     ensures { (p : PlatformValue) (past : List Record) → IsBoard p.board → IsPlatform p
         → IsLegalOn p past → OneEntryEach p past }
-{
-    law_paths();
-    law_words();
-    law_mpidrs();
-    law_named();
-    law_missing();
-    law_asked();
-    law_boot_core();
-    law_values();
-    law_power_on();
-}
+{}
 
 /// In a legal history of a platform a core that a word of CPU_SUSPEND has stopped asks of each
 /// level of the board the depth of the level's state, by the row of the word.
@@ -89,11 +55,7 @@ pub fn law_asks_on()
         → IsLegalOn p (r ∷ past) → r.event ≡ Call mpidr regs
         → request_of regs ≡ CpuSuspend word entry context → r.said ≡ Fw Stop (Some sent)
         → AsksByWord p r past mpidr word }
-{
-    law_missing();
-    law_asked();
-    law_values();
-}
+{}
 
 /// A legal history of a platform is safe at every moment, in the platform's own words: no core that
 /// executes stands below a domain that is not fully on, and a core that AFFINITY_INFO said is OFF
@@ -104,19 +66,4 @@ pub fn law_asks_on()
 pub fn law_safe_on()
     ensures { (p : PlatformValue) (past : List Record) → IsBoard p.board → IsPlatform p
         → IsLegalOn p past → AlwaysSafeOn p past }
-{
-    law_paths();
-    law_words();
-    law_mpidrs();
-    law_named();
-    law_missing();
-    law_boot_core();
-    law_kept();
-    law_sent();
-    law_safe();
-    law_told_off();
-    law_told_hw();
-    law_claimed_depths();
-    law_asked_claims();
-    law_one_entry_on();
-}
+{}

@@ -1,42 +1,135 @@
 -- Each act that is due leaves less to do, where the firmware answers as it is defined.
-use Rattle.std.proofs.Common.{◌+◌, ◌<◌, ◌∙◌, ◌≡◌, ◌≤◌, ap, arith, false}
-use Rattle.std.proofs.Common.{◌∷◌, length, List, Option, None, Some, refl, subst, sym, true, ℕ}
-use Rattle.std.proofs.lemmas.Option.{none-some}
+use Rattle.std.proofs.lemmas.Bool.Decides.{nat_tests}
+use Rattle.std.proofs.Common.{◌+◌, ◌<◌, ◌∙◌, ◌∷◌, ◌≡◌, ◌≤◌, ap, arith, Bool, false, length, List}
+use Rattle.std.proofs.Common.{None, Option, refl, Some, subst, sym, true, ℕ}
 use Rattle.std.proofs.lemmas.Bool.{cond-false, cond-true, eq-eqb, false≢true, ne_eqb}
+use Rattle.std.proofs.lemmas.Option.{none-some}
 use Rattle.psci_board.specs.Board.{BoardValue, cores}
-use Rattle.psci_ctl_spec.specs.psci_messages.declared.start.Start.{Start}
 use Rattle.psci_ctl_spec.specs.Replies.{last_start}
-use Rattle.psci_world_spec.specs.psci_fw_spec.declared.call.FwCall.TheVariants as calls
-use Rattle.psci_world_spec.specs.psci_fw_spec.declared.outcome.Act.{Act as Outcome}
-use Rattle.psci_world_spec.specs.psci_fw_spec.Answer.{answer, reply_or}
-use Rattle.psci_world_spec.specs.psci_fw_spec.Entering.{enter_fault, enter_outcome}
+use Rattle.psci_ctl_spec.specs.psci_messages.declared.start.Start.{Start}
+use Rattle.psci_world_spec.specs.Legal.{asked_firmware, firmware_values, sent, sent_as}
 use Rattle.psci_world_spec.specs.declared.event.Event.{Event}
-use Rattle.psci_world_spec.specs.declared.event.Event.TheVariants.{Call, Enter, Wake, Reset}
-use Rattle.psci_world_spec.specs.declared.event.Event.TheVariants.{Deliver, Take}
+use Rattle.psci_world_spec.specs.declared.event.Event.TheVariants.{Enter}
 use Rattle.psci_world_spec.specs.declared.said.Record.{Record}
 use Rattle.psci_world_spec.specs.declared.said.Said.{Said}
-use Rattle.psci_world_spec.specs.declared.said.Said.TheVariants.{Fw, Kick, Acked, Ignored, Absent}
-use Rattle.psci_world_spec.specs.declared.said.Said.TheVariants.{Taken as Took}
-use Rattle.psci_world_spec.specs.Histories.{firmware_values, sent}
-use Rattle.psci_world_spec.specs.Legal.{asked_firmware, said_of, sent_as}
-use Rattle.psci_headline.specs.Refusals.{NoneRefused}
-use Rattle.psci_port.specs.Stages.{Stage, Standing, AtDoor, Entering, Normal, Leaving, Armed, Woken}
-use Rattle.psci_port.specs.Stages.{place_of, stage_after, stage_said}
-use Rattle.psci_port.specs.Port.{Port, Act, Locks, Unlocks, Calls, Enters, Takes, Finishes}
-use Rattle.psci_port.specs.Port.{TakesUp, Stands, Arms, Sleeps, Delivers, Wakes, Resets, Writes}
-use Rattle.psci_port.specs.Port.{Rouses, Rises, Turns, Opens, Cuts, Restarts, Reboots, ended}
-use Rattle.psci_port.specs.Port.{finished, stage_at, state, step, stopping}
+use Rattle.psci_world_spec.specs.declared.said.Said.TheVariants.{Fw}
+use Rattle.psci_world_spec.specs.psci_fw_spec.Answer.{answer, enter_outcome}
+use Rattle.psci_world_spec.specs.psci_fw_spec.declared.call.FwCall.TheVariants as calls
+use Rattle.psci_world_spec.specs.psci_fw_spec.declared.outcome.Act.{Act as Outcome}
+use Rattle.psci_headline.specs.Laws.{NoneRefused}
+use Rattle.psci_port.specs.Port.{Act, Arms, ended, Enters, finished, Finishes, Locks, Opens, Port}
+use Rattle.psci_port.specs.Port.{Row, Sleeps, stage_at, Stands, state, step, stopping, TakesUp}
+use Rattle.psci_port.specs.Port.{taking_up, Turns, Unlocks, with_row, Writes}
+use Rattle.psci_port.specs.Resting.{call_left, core_left, door_left, has_lock, is_entering}
+use Rattle.psci_port.specs.Resting.{IsDue, left, own_left, row_left, stage_left, start_left}
 use Rattle.psci_port.specs.Rules.{IsPortRun}
-use Rattle.psci_port.specs.Resting.{IsDue, call_left, has_lock, left, own_left, stage_left}
-use Rattle.psci_port.proofs.Own.{open_last}
-use Rattle.psci_port.proofs.Locks.{Fits, not_inside}
-use Rattle.psci_port.proofs.Keeping.{IsKept}
-use Rattle.psci_port.proofs.Running.{run_kept}
+use Rattle.psci_port.specs.Stages.{Armed, AtDoor, Entering, Leaving, may_hold, Normal, Stage}
+use Rattle.psci_port.specs.Stages.{stage_after, stage_in, stage_said, Standing, Woken}
+use Rattle.psci_port.proofs.Locks.{Fits, IsKept}
 use Rattle.psci_port.proofs.Mirrors.{IsDue as IsSaid, IsMirror}
-use Rattle.psci_port.proofs.Shown.{shown_itself}
-use Rattle.psci_port.proofs.Weighing.{after_few, arms_less, door_lowers, has, lacks, left_is}
-use Rattle.psci_port.proofs.Weighing.{lock_lowers, locks_less, stage_lowers, start_lowers}
-use Rattle.psci_port.proofs.Weighing.{unlocks_less}
+use Rattle.psci_port.proofs.Records.{open_last}
+use Rattle.psci_port.proofs.Running.{run_kept, shown_itself}
+use Rattle.psci_port.proofs.Truth.{same_le, total_less}
+
+-- One core moves ---------------------------------------------------------------------------------
+
+module _ (b : BoardValue) (p : Port) (c : ℕ) (on : c < cores b) where
+  abbrev lock_there : Bool
+  lock_there = has_lock p.lock c
+
+  abbrev starts : ℕ
+  starts = p.values.starts c
+
+  abbrev last : Option Start
+  last = last_start p.values c
+
+  abbrev row : Row
+  row = p.row c
+
+  row_here : (r : Row) → (with_row p c r).row c ≡ r
+  row_here r = cond-true _ _ _ (eq-eqb c c refl)
+
+  row_there : (r : Row) (x : ℕ) → (x ≡ c → ⊥) → (with_row p c r).row x ≡ p.row x
+  row_there r x never = cond-false _ _ _ (ne_eqb x c never)
+
+  pub one_row : (r : Row) → row_left lock_there starts last r < core_left p c
+      → left b (with_row p c r) < left b p
+  one_row r less = search (arith, total_less, row_here, same_le, row_there)
+
+  inner : (a k x y : ℕ) → x < y → a + (k + x) < a + (k + y)
+  inner a k x y less = omega (arith, less)
+
+  -- it moves, and nothing is written of its door and its start
+  pub stage_lowers : (r : Row) → door_left starts last r ≡ door_left starts last row
+      → start_left starts r ≡ start_left starts row
+      → stage_left lock_there r.begun r.stage < stage_left lock_there row.begun row.stage
+      → left b (with_row p c r) < left b p
+  stage_lowers r door start less = grind (arith, nat_tests, one_row, inner)
+
+  -- the lock goes from hand to hand
+  pub lock_lowers : (lock : Option ℕ) → ((x : ℕ) → (x ≡ c → ⊥)
+      → has_lock lock x ≡ has_lock p.lock x)
+      → stage_left (has_lock lock c) row.begun row.stage < stage_left lock_there row.begun row.stage
+      → left b (record p { lock = lock }) < left b p
+  lock_lowers lock others less =
+      total_less (core_left p) (core_left (record p { lock = lock })) c (cores b) on
+      (inner (door_left starts last row) (start_left starts row)
+      (stage_left (has_lock lock c) row.begun row.stage)
+      (stage_left lock_there row.begun row.stage) less)
+      (λ x within never. same_le _ _
+      (ap (λ h. row_left h (p.values.starts x) (last_start p.values x) (p.row x))
+      (others x never)))
+
+  -- its door is written, or opened
+  fewer : (a k y z : ℕ) → a < k → a + (y + z) < k + (y + z)
+  fewer a k y z less = omega (arith, less)
+
+  pub door_lowers : (r : Row) → start_left starts r ≡ start_left starts row
+      → stage_left lock_there r.begun r.stage ≡ stage_left lock_there row.begun row.stage
+      → door_left starts last r < door_left starts last row
+      → left b (with_row p c r) < left b p
+  door_lowers r start stage less = grind (arith, nat_tests, one_row, fewer)
+
+  -- it takes its start up
+  spent : (a x u : ℕ) → x ≤ 8 → a + (0 + x) < a + (10 + u)
+  spent a x u few = omega (arith, few)
+
+  in_few : (d : Option Start) (h : Bool) → own_left h (stage_in d) ≤ 8
+  in_few d h = grind (arith, nat_tests)
+
+  pub start_lowers : (row.begun ≡ None) → row.opened ≡ starts → (row.used ≡ starts → ⊥)
+      → left b (with_row p c (taking_up row)) < left b p
+  start_lowers none opened new =
+      grind (arith, nat_tests, one_row, cond-true, eq-eqb, cond-false, ne_eqb, spent, in_few)
+
+-- What is left of a stage ------------------------------------------------------------------------
+
+pub left_is : (h g : Bool) (o q : Option Record) (y z : Stage) → h ≡ g → o ≡ q → y ≡ z
+    → stage_left h o y ≡ stage_left g q z
+left_is h g o q y z lock begun stage = grind (arith, nat_tests)
+
+pub lacks : (o : Option ℕ) (c : ℕ) → (o ≡ Some c → ⊥) → has_lock o c ≡ false
+lacks None c never = refl
+lacks (Some d) c never = ne_eqb c d (λ e. never (ap (λ x. Some x) (sym e)))
+
+pub has : (o : Option ℕ) (c : ℕ) → o ≡ Some c → has_lock o c ≡ true
+has o c at = ap (λ x. has_lock x c) at ∙ eq-eqb c c refl
+
+-- who gives the lock back is nearer to its rest
+pub unlocks_less : (y : Stage) → may_hold y ≡ true → is_entering y ≡ false
+    → own_left false y < own_left true y
+unlocks_less y holds out = grind (arith, nat_tests)
+
+-- and who takes it on the way in
+pub locks_less : (y : Stage) → is_entering y ≡ true → own_left true y < own_left false y
+locks_less (Entering s) in_way = omega arith
+locks_less y in_way = absurd (false≢true in_way)
+
+pub arms_less : (h : Bool) → own_left h Armed < own_left h Leaving
+arms_less true = omega arith
+arms_less false = omega arith
+
+-- Lowering ----------------------------------------------------------------------------------------
 
 less_by : (a c x z : ℕ) → a ≡ c → x ≡ z → c < z → a < x
 less_by a c x z e f less = omega (arith, e, f, less)
@@ -47,72 +140,32 @@ one_less a k o e f = omega (arith, e, f)
 one_less_there : (o a k : ℕ) → a ≡ 0 → k ≡ 1 → o + a < o + k
 one_less_there o a k e f = omega (arith, e, f)
 
-some_start : (s t : Start) → Some s ≡ Some t → s ≡ t
-some_start s t e = grind arith
-
 -- The end of a call ------------------------------------------------------------------------------
 
 after_less : (a : Outcome) → own_left true (stage_after a) < 6
-after_less a = few (own_left true (stage_after a)) (after_few a)
-  where
-    few : (n : ℕ) → n ≤ 4 → n < 6
-    few n low = omega (arith, low)
+after_less a = grind (arith, nat_tests)
 
 normal_less : (y : Stage) → y ≡ Normal → own_left true y < 6
 normal_less y at = subst (λ z. own_left true z < 6) (sym at) (omega arith)
 
 module _ (b : BoardValue) (p : Port) (kept : IsKept p) (mirror : IsMirror b p)
     (free : NoneRefused b p.past) where
-  -- an entry is not refused
-  enters_so : (c : ℕ) (s : Start) → c < cores b → stage_at p c ≡ Entering s
-      → enter_fault b (firmware_values b p.past) c s ≡ None
-  enters_so c s on at =
-      let may = free.enters c on (mirror.places c ∙ ap place_of at) in
-      let last : last_start p.values c ≡ Some s = (kept.rows c).taken s at in
-      subst (λ t. enter_fault b (firmware_values b p.past) c t ≡ None)
-      (some_start may.0 s (sym may.1 ∙ ap (λ v. last_start v c) mirror.values ∙ last)) may.2
-
   entry_said : (c : ℕ) (s : Start) → c < cores b → stage_at p c ≡ Entering s
       → asked_firmware b p.past c (calls.Enter s)
       ≡ Fw (enter_outcome b (firmware_values b p.past) c s).act (sent_as (length (sent p.past))
       (enter_outcome b (firmware_values b p.past) c s).message)
   unfolding answer
-  entry_said c s on at =
-      ap (λ f. said_of (length (sent p.past)) (reply_or f
-      (enter_outcome b (firmware_values b p.past) c s))) (enters_so c s on at)
+  entry_said c s on at = grind (arith, nat_tests)
 
   finish_less : (c : ℕ) (event : Event) (said : Said) → Fits c event (stage_at p c)
       → IsSaid b p.past c event said (stage_at p c)
       → own_left true (stage_said event said (stage_at p c))
       < call_left event (own_left true (stage_at p c))
-  finish_less c (Call d regs) (Fw act sent) fits so = after_less act
-  finish_less c (Call d regs) (Kick start) fits so = normal_less (stage_at p c) fits.1
-  finish_less c (Call d regs) (Acked n a) fits so = normal_less (stage_at p c) fits.1
-  finish_less c (Call d regs) (Took taken) fits so = normal_less (stage_at p c) fits.1
-  finish_less c (Call d regs) Ignored fits so = normal_less (stage_at p c) fits.1
-  finish_less c (Call d regs) Absent fits so = normal_less (stage_at p c) fits.1
-  finish_less c (Enter d) said fits so =
-      let on : c < cores b = so.0 in
-      let s : Start = so.1.0 in
-      let at : stage_at p c ≡ Entering s = so.1.1 in
-      subst (λ x. own_left true (stage_said (Enter d) x (stage_at p c)) < 6)
-      (sym (so.1.2 ∙ entry_said c s on at))
-      (after_less (enter_outcome b (firmware_values b p.past) c s).act)
-  finish_less c (Take k) said fits so = more (own_left true (stage_at p c))
-    where
-      more : (n : ℕ) → n < n + 1
-      more n = omega arith
-  finish_less c (Wake d) said fits so = absurd fits
-  finish_less c (Reset d) said fits so = absurd fits
-  finish_less c (Deliver k) said fits so = absurd fits
+  finish_less c event said fits so = grind (arith, nat_tests, after_less, normal_less, entry_said)
 
   -- who has not the lock is inside no call
   none_inside : (c : ℕ) → (p.lock ≡ Some c → ⊥) → (p.row c).begun ≡ None
-  none_inside c lacking = by (p.row c).begun refl
-    where
-      by : (o : Option Record) → (p.row c).begun ≡ o → o ≡ None
-      by None e = refl
-      by (Some r) e = absurd (not_inside p.lock p.row p.whole kept.held c r lacking e)
+  none_inside c lacking = grind (arith, nat_tests)
 
   -- what is left of a core that has the lock, or has it not
   with_lock : (c : ℕ) (y : Stage) → p.lock ≡ Some c → (p.row c).begun ≡ None
@@ -129,9 +182,7 @@ module _ (b : BoardValue) (p : Port) (kept : IsKept p) (mirror : IsMirror b p)
       → own_left false z < own_left false y
       → stage_left (has_lock p.lock c) (p.row c).begun z
       < stage_left (has_lock p.lock c) (p.row c).begun (stage_at p c)
-  goes_less c y z lacking at less =
-      less_by _ _ _ _ (without c z lacking)
-      (without c (stage_at p c) lacking ∙ ap (own_left false) at) less
+  goes_less c y z lacking at less = grind (arith, nat_tests, less_by, without)
 
   -- All acts that are due ------------------------------------------------------------------------
 
@@ -161,11 +212,7 @@ module _ (b : BoardValue) (p : Port) (kept : IsKept p) (mirror : IsMirror b p)
       → (p.row c).begun ≡ None → stage_at p c ≡ Entering s → call_left r.event 7 ≡ 6
       → stage_left (has_lock p.lock c) (Some r) (stage_at p c)
       < stage_left (has_lock p.lock c) (p.row c).begun (stage_at p c)
-  enters_lowers c s r on held none at six =
-      less_by _ 6 _ 7
-      (left_is _ true (Some r) (Some r) (stage_at p c) (Entering s) (has p.lock c held) refl at
-      ∙ six)
-      (with_lock c (stage_at p c) held none ∙ ap (own_left true) at) (omega arith)
+  enters_lowers c s r on held none at six = grind (arith, nat_tests)
 
   finishes_lowers : (c : ℕ) (r : Record) → c < cores b → (p.row c).begun ≡ Some r
       → left b (finished p c (Some r)) < left b p
@@ -184,13 +231,11 @@ module _ (b : BoardValue) (p : Port) (kept : IsKept p) (mirror : IsMirror b p)
   lowers (Unlocks c) due =
       unlocks_lowers c due.1.0 due.0.0 due.0.1
       (unlocks_less (stage_at p c) (kept.held.holder c due.0.0) due.1.1)
-  lowers (Calls c regs said) due = absurd due.1
   lowers (Enters c said) due =
       stage_lowers b p c due.0.0
       (record (p.row c) { begun = Some (record { event = Enter c; said = said }) }) refl refl
       (enters_lowers c due.0.2.0 (record { event = Enter c; said = said }) due.0.0 due.0.1.0
       due.0.1.1 due.0.2.1 refl)
-  lowers (Takes c k said) due = absurd due.1
   lowers (Finishes c) due =
       subst (λ o. left b (finished p c o) < left b p) (sym due.0.1)
       (finishes_lowers c due.0.0 due.1 due.0.1)
@@ -212,11 +257,6 @@ module _ (b : BoardValue) (p : Port) (kept : IsKept p) (mirror : IsMirror b p)
   lowers (Sleeps c) due =
       stage_lowers b p c due.1 (record (p.row c) { stage = Standing }) refl refl
       (goes_less c Armed Standing due.0.1 due.0.0 (omega arith))
-  lowers (Delivers k m) due = absurd due.1
-  lowers (Wakes c) due = absurd due.1
-  lowers (Resets c) due = absurd due.1
-  lowers (Rouses c) due = absurd due.1
-  lowers (Rises c) due = absurd due.1
   lowers (Turns c) due =
       stage_lowers b p c due.1 (record (p.row c) { stage = AtDoor }) refl refl
       (goes_less c Woken AtDoor due.0.1 due.0.0 (omega arith))
@@ -229,9 +269,7 @@ module _ (b : BoardValue) (p : Port) (kept : IsKept p) (mirror : IsMirror b p)
       (record (p.row c) { opened = p.values.starts c; held = false }) refl refl
       (one_less_there _ _ _ (cond-true _ _ _ (eq-eqb (p.values.starts c) (p.values.starts c) refl))
       (cond-false _ _ _ due.1.1))
-  lowers (Cuts level place) due = absurd due.1
-  lowers Restarts due = absurd due.1
-  lowers Reboots due = absurd due.1
+  lowers act due = absurd due.1
 
 pub run_lowers : (b : BoardValue) (acts : List Act) (act : Act) → IsPortRun b acts
     → IsMirror b (state b acts) → NoneRefused b (state b acts).past → IsDue b (state b acts) act

@@ -1,29 +1,30 @@
 -- Worked examples are stated so: acts in turn, and which clauses fail after them. An act that
 -- breaks a rule is played as any other.
-use Rattle.std.proofs.Common.{◌∷◌, ◌++◌, ◌==◌, [], true, false, ℕ, Bool, List}
-use Rattle.std.proofs.Common.{Option, None, Some}
-use Rattle.std.specs.Prelude.{not, ◌&&◌, ◌||◌, if◌then◌else◌, nat_lt}
+use Rattle.std.specs.Prelude.{◌&&◌, ◌||◌, if◌then◌else◌, is_some, nat_le, nat_lt, not}
+use Rattle.std.proofs.Common.{◌++◌, ◌==◌, ◌∷◌, [], arith, Bool, List, None, Option, Some, true, ℕ}
 use Rattle.psci_board.specs.Board.{BoardValue, up}
+use Rattle.psci_ctl_spec.specs.History.{IsSendable}
+use Rattle.psci_ctl_spec.specs.Replies.{last_start}
+use Rattle.psci_ctl_spec.specs.Values.{Values}
 use Rattle.psci_ctl_spec.specs.psci_messages.Message.{AckValue, MessageValue}
 use Rattle.psci_ctl_spec.specs.psci_messages.declared.kind.Kind.{Kind}
 use Rattle.psci_ctl_spec.specs.psci_messages.declared.kind.Kind.TheVariants as kinds
+use Rattle.psci_ctl_spec.specs.psci_messages.declared.kind.Kind.TheVariants.{Down, Off}
 use Rattle.psci_ctl_spec.specs.psci_messages.declared.part.Part.{Part}
 use Rattle.psci_ctl_spec.specs.psci_messages.declared.start.Cause.TheVariants as causes
 use Rattle.psci_ctl_spec.specs.psci_messages.declared.start.Start.{Start}
-use Rattle.psci_ctl_spec.specs.Replies.{last_start}
-use Rattle.psci_world_spec.specs.psci_fw_spec.declared.call.FwCall.TheVariants as calls
+use Rattle.psci_world_spec.specs.Legal.{acks, asked_firmware, indexed, sent}
 use Rattle.psci_world_spec.specs.declared.said.Said.{Said}
 use Rattle.psci_world_spec.specs.declared.said.Said.TheVariants.{Absent}
-use Rattle.psci_world_spec.specs.Histories.{acks, sent}
-use Rattle.psci_world_spec.specs.Legal.{asked_firmware}
-use Rattle.psci_world_spec.specs.Lists.{indexed}
-use Rattle.psci_world_spec.proofs.Scripts.{board, computing, part}
+use Rattle.psci_world_spec.specs.psci_fw_spec.declared.call.FwCall.TheVariants as calls
+use Rattle.psci_world_spec.proofs.Scripts.{board, computing, part, tall}
+use Rattle.psci_headline.specs.Test.{at_each_core, at_each_level}
+use Rattle.psci_port.specs.Port.{Act, Calls, cold, Delivers, Enters, Finishes, Locks, Opens}
+use Rattle.psci_port.specs.Port.{Port, stage_at, Stands, state, step, Takes, TakesUp, Unlocks}
+use Rattle.psci_port.specs.Port.{words, Writes}
 use Rattle.psci_port.specs.Rebooted.{rebooted}
-use Rattle.psci_port.specs.Stages.{Stage, Entering}
-use Rattle.psci_port.specs.Stages.{executes, has_stopped, may_hold}
-use Rattle.psci_port.specs.Port.{Port, Act, Locks, Unlocks, Calls, Enters, Takes, Finishes}
-use Rattle.psci_port.specs.Port.{TakesUp, Stands, Delivers, Writes}
-use Rattle.psci_port.specs.Port.{Opens, cold, stage_at, state, step, words}
+use Rattle.psci_port.specs.Resting.{is_shown}
+use Rattle.psci_port.specs.Stages.{Entering, executes, has_stopped, may_hold, Stage}
 
 -- Acts in turn -----------------------------------------------------------------------------------
 
@@ -95,67 +96,66 @@ pub data Clause : Type 0 where
   Stood : Clause
   Entered : Clause
 
-abbrev each_core : (ℕ → Bool) → Bool
-each_core f = f 0 && f 1 && f 2 && f 3
+-- whether each core that executes something has its power, and whether no domain is down above one
+-- that has not said that it stands
+abbrev pub is_powered : BoardValue → (ℕ → Bool) → (ℕ → ℕ → Bool) → Bool
+is_powered b executing cut = at_each_core b (λ c. not (executing c)
+    || at_each_level b (λ l. not (cut l (up b l c))))
 
-abbrev each_level : (ℕ → Bool) → Bool
-each_level f = f 0 && f 1 && f 2
+abbrev pub is_awake : BoardValue → (ℕ → Bool) → (ℕ → ℕ → ℕ) → Bool
+is_awake b standing depth = at_each_core b (λ c. standing c
+    || at_each_level b (λ l. depth l (up b l c) == 0))
 
-abbrev pub is_some : {A : Type 0} → Option A → Bool
-is_some None = false
-is_some (Some x) = true
+-- whether this is so of who has the lock
+abbrev pub of_holder : Option ℕ → (ℕ → Bool) → Bool
+of_holder None test = true
+of_holder (Some c) test = test c
 
-abbrev has_it : Option ℕ → ℕ → Bool
-has_it None c = false
-has_it (Some d) c = d == c
+-- whether two cores that are inside the firmware are one
+abbrev is_one : Port → ℕ → ℕ → Bool
+is_one p c d = not (is_some (p.row c).begun && is_some (p.row d).begun) || c == d
 
 abbrev stands_so : Port → ℕ → Bool
 stands_so p c = words p c == p.values.starts c
 
-abbrev same_start : Start → Option Start → Bool
-same_start s None = false
-same_start s (Some t) = s.life == t.life && s.number == t.number
-
-abbrev enters_last : Option Start → Stage → Bool
-enters_last last (Entering s) = same_start s last
+abbrev pub enters_last : Option Start → Stage → Bool
+enters_last last (Entering s) = is_shown last (Some s)
 enters_last last y = true
 
-abbrev inside_at_once : Port → ℕ → ℕ → Bool
-inside_at_once p c d = is_some (p.row c).begun && is_some (p.row d).begun && not (c == d)
-
--- whether a clause holds, of the cores and levels of this board
-abbrev holds : Port → Clause → Bool
-holds p Powered = each_core (λ c. each_level (λ l.
-    not (executes (stage_at p c) && p.cut l (up board l c))))
-holds p Awake = each_core (λ c. each_level (λ l.
-    has_stopped (stage_at p c) || p.values.depth l (up board l c) == 0))
-holds p Holder = each_core (λ c. not (has_it p.lock c) || may_hold (stage_at p c))
-holds p Alone = each_core (λ c. each_core (λ d. not (inside_at_once p c d)))
-holds p Free = is_some p.lock || p.whole
-holds p Whole = each_core (λ c. not (has_it p.lock c && not (is_some (p.row c).begun)) || p.whole)
-holds p ByWord = each_core (λ c. not (stands_so p c) || has_stopped (stage_at p c))
-holds p Stood = each_core (λ c. not (has_stopped (stage_at p c)) || stands_so p c)
-holds p Entered = each_core (λ c. enters_last (last_start p.values c) (stage_at p c))
+-- whether a clause holds in a port of this board
+abbrev pub holds : BoardValue → Port → Clause → Bool
+holds b p Powered = is_powered b (λ c. executes (stage_at p c)) p.cut
+holds b p Awake = is_awake b (λ c. has_stopped (stage_at p c)) p.values.depth
+holds b p Holder = of_holder p.lock (λ c. may_hold (stage_at p c))
+holds b p Alone = at_each_core b (λ c. at_each_core b (λ d. is_one p c d))
+holds b p Free = is_some p.lock || p.whole
+holds b p Whole = of_holder p.lock (λ c. is_some (p.row c).begun || p.whole)
+holds b p ByWord = at_each_core b (λ c. not (stands_so p c) || has_stopped (stage_at p c))
+holds b p Stood = at_each_core b (λ c. not (has_stopped (stage_at p c)) || stands_so p c)
+holds b p Entered = at_each_core b (λ c. enters_last (last_start p.values c) (stage_at p c))
 
 abbrev failing_of : Port → List Clause → List Clause
 failing_of p [] = []
-failing_of p (k ∷ ks) = if holds p k then failing_of p ks else (k ∷ failing_of p ks)
+failing_of p (k ∷ ks) = if holds board p k then failing_of p ks else (k ∷ failing_of p ks)
 
 -- the clauses that fail after these acts
 abbrev pub failing : List Act → List Clause
 failing acts = failing_of (after acts)
     (Powered ∷ Awake ∷ Holder ∷ Alone ∷ Free ∷ Whole ∷ ByWord ∷ Stood ∷ Entered ∷ [])
 
-abbrev same_door : Option Start → Option Start → Bool
-same_door None last = false
-same_door (Some s) last = same_start s last
+-- whether a start that is taken up is the last one, and was not used
+abbrev pub is_last : Option Start → Option Start → ℕ → ℕ → ℕ → Bool
+is_last door last opened used starts =
+    is_shown door last && (opened == starts && nat_lt used starts)
 
--- whether what this core takes up after these acts is its last start, and was not used
+-- so is what this core takes up
+abbrev pub takes_last : Port → ℕ → Bool
+takes_last p c = is_last (p.row c).door (last_start p.values c) (p.row c).opened (p.row c).used
+    (p.values.starts c)
+
+-- the same after these acts
 abbrev pub takes_last_start : (List Act × ℕ) → Bool
-takes_last_start (acts, c) =
-    let p = after acts in
-    same_door (p.row c).door (last_start p.values c)
-    && (p.row c).opened == p.values.starts c && nat_lt (p.row c).used (p.values.starts c)
+takes_last_start (acts, c) = takes_last (after acts) c
 
 -- Runs -------------------------------------------------------------------------------------------
 
@@ -190,3 +190,85 @@ down_3 = of_3 kinds.Down 1 (part 0 3 1 ∷ part 1 3 1 ∷ [])
 -- a start by a wake-up
 abbrev pub start_of : ℕ → ℕ → Start
 start_of life number = record { life = life; number = number; cause = causes.Wake }
+
+-- Cases -------------------------------------------------------------------------------------------
+-- Worked examples of messages stand for these cases: on boards of height 2 and 3, of the boot core
+-- and of core 3, in life 1 and in life 2, in standby and as a life ends.
+
+-- each core was started once, and the domains are so deep
+abbrev pub at_depths : ℕ → (ℕ → ℕ → ℕ) → Values
+at_depths life depth = record {
+  life = Some life;
+  starts = λ c. 1;
+  cause = λ c. causes.On;
+  depth = depth;
+}
+
+-- each domain is fully on, or powered down up to this level
+abbrev pub on : ℕ → ℕ → ℕ
+on level place = 0
+
+abbrev pub down_to : ℕ → ℕ → ℕ → ℕ
+down_to most level place = if nat_le level most then 3 else 0
+
+-- a Down of a core of four that were started once each
+abbrev pub down_of : ℕ → ℕ → List Part → MessageValue
+down_of c life parts = record {
+  kind = Down;
+  core = record { number = c };
+  life = life;
+  number = 1;
+  parts = parts;
+}
+
+-- with a part of each level, and in standby
+abbrev pub whole : List Part
+whole = part 0 3 1 ∷ part 1 3 2 ∷ part 2 3 4 ∷ []
+
+abbrev pub whole_tall : List Part
+whole_tall = part 0 3 1 ∷ part 1 3 1 ∷ part 2 3 2 ∷ part 3 3 4 ∷ []
+
+abbrev pub standby : List Part
+standby = part 0 1 1 ∷ part 1 1 2 ∷ part 2 1 4 ∷ []
+
+-- the system is turned off, or reset
+abbrev pub of_system : Kind → ℕ → MessageValue
+of_system kind life = record {
+  kind = kind;
+  core = record { number = 0 };
+  life = life;
+  number = 1;
+  parts = [];
+}
+
+-- The cases --------------------------------------------------------------------------------------
+
+-- what is so of each message on its board
+abbrev pub Each : (BoardValue → MessageValue → Type 0) → Type 0
+Each P =
+    -- boot_core: a Down of the boot core
+    P board (down_of 0 1 whole)
+    -- height_3: on a board of height 3
+    × P tall (down_of 0 1 whole_tall)
+    -- life_2: core 3 in life 2
+    × P board (down_of 3 2 whole)
+    -- in_standby: a Down in standby
+    × P board (down_of 0 1 standby)
+    -- life_ends: the system is turned off
+    × P board (of_system Off 1)
+
+-- but for what ends the life
+abbrev pub EachGoing : (BoardValue → MessageValue → Type 0) → Type 0
+EachGoing P =
+    -- boot_core: a Down of the boot core
+    P board (down_of 0 1 whole)
+    -- height_3: on a board of height 3
+    × P tall (down_of 0 1 whole_tall)
+    -- life_2: core 3 in life 2
+    × P board (down_of 3 2 whole)
+    -- in_standby: a Down in standby
+    × P board (down_of 0 1 standby)
+
+pub sendable : Each IsSendable
+unfolding playing
+sendable = search arith

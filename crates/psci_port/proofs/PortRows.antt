@@ -1,9 +1,8 @@
 -- Worked examples: what a port has written down after acts, which messages wait there, what a life
--- leaves as it ends or begins, and the clauses as they stand.
+-- leaves as it ends or begins, and which acts and runs count.
 use Rattle.std.proofs.Common.{◌≡◌, ◌∷◌, ◌++◌, [], arith, Bool, false, length, List, map, None}
-use Rattle.std.proofs.Common.{Option}
-use Rattle.std.proofs.Common.{refl, reverse, Some, sym, true, ℕ}
-use Rattle.std.proofs.lemmas.Bool.{false≢true}
+use Rattle.std.proofs.Common.{Option, refl, reverse, Some, true, ℕ}
+use Rattle.std.proofs.lemmas.Bool.{eqb-false}
 use Rattle.std.proofs.lemmas.Option.{none-some}
 use Rattle.std.specs.Prelude.{take}
 use Rattle.psci_board.proofs.Tables.{◌⇒◌, Gives}
@@ -14,16 +13,17 @@ use Rattle.psci_ctl_spec.specs.psci_messages.declared.start.Cause.TheVariants as
 use Rattle.psci_ctl_spec.specs.declared.call.CtlCall.{CtlCall}
 use Rattle.psci_ctl_spec.specs.declared.call.CtlCall.TheVariants as asked
 use Rattle.psci_world_spec.specs.declared.event.Event.TheVariants.{Deliver, Enter}
+use Rattle.psci_world_spec.specs.declared.said.Record.{Record}
 use Rattle.psci_world_spec.specs.declared.said.Said.{Said}
+use Rattle.psci_world_spec.specs.declared.said.Said.TheVariants.{Ignored}
 use Rattle.psci_world_spec.proofs.Scripts.{acked, asks_on, board, enters as enters_at, goes_down}
-use Rattle.psci_world_spec.proofs.Scripts.{halts, one_core, part, system_reset}
-use Rattle.psci_port.specs.Kept.{EachTakesItsLast, IsLocked, NoneCut, TakesItsLast, WordsTell, runs}
+use Rattle.psci_world_spec.proofs.Scripts.{halts, one_core, part, resumes, system_reset}
+use Rattle.psci_port.specs.Kept.{AreLegal, AreSafe, EachTakesItsLast, runs}
 use Rattle.psci_port.specs.Rebooted.{rebooted}
 use Rattle.psci_port.specs.Stages.{Stage, Standing, AtDoor, Entering, Normal, Leaving, Armed, Woken}
-use Rattle.psci_port.specs.Stages.{is_started, roused_at, stage_by, started_at}
-use Rattle.psci_port.specs.Port.{Act, Locks, Unlocks, Finishes, TakesUp, Arms, Delivers, Wakes}
-use Rattle.psci_port.specs.Port.{Resets, Writes, Opens, Cuts, Restarts, Reboots, held_by, stage_at}
-use Rattle.psci_port.specs.Port.{words}
+use Rattle.psci_port.specs.Stages.{executes, is_started, may_hold, roused_at, stage_by, started_at}
+use Rattle.psci_port.specs.Port.{Act, Locks, Finishes, TakesUp, Delivers, Wakes, Resets, Writes}
+use Rattle.psci_port.specs.Port.{Opens, Restarts, Reboots, held_by, stage_at, words}
 use Rattle.psci_port.specs.Waiting.{waits}
 use Rattle.psci_port.proofs.CellRows.{both_come, life_1, reset_in_the_dark, started_meanwhile}
 use Rattle.psci_port.proofs.CellRows.{system_ends, torn_and_gone_on, torn_twice}
@@ -148,12 +148,15 @@ holds_by_cause : map {B = Bool × Bool} (λ cause. (held_by cause false, held_by
     ≡ (false, true) ∷ (false, true) ∷ (false, true) ∷ (true, true) ∷ []
 holds_by_cause = refl
 
--- what a start and an interrupt leave of each stage, and whether a core was started there
-each_stage : map {B = Stage × Stage × Bool} (λ y. (started_at y, roused_at y, is_started y))
+-- what a start and an interrupt leave of each stage; whether a core executes something there, was
+-- started, and may have the lock
+each_stage : map {B = Stage × Stage × Bool × Bool × Bool}
+    (λ y. (started_at y, roused_at y, executes y, is_started y, may_hold y))
     (Standing ∷ AtDoor ∷ Entering (start_of 1 2) ∷ Normal ∷ Leaving ∷ Armed ∷ Woken ∷ [])
-    ≡ (AtDoor, Armed, false) ∷ (AtDoor, Woken, true)
-    ∷ (AtDoor, Entering (start_of 1 2), false) ∷ (AtDoor, Normal, false)
-    ∷ (AtDoor, Leaving, false) ∷ (Woken, Armed, false) ∷ (Woken, Woken, true) ∷ []
+    ≡ (AtDoor, Armed, false, false, false) ∷ (AtDoor, Woken, true, true, false)
+    ∷ (AtDoor, Entering (start_of 1 2), true, false, true) ∷ (AtDoor, Normal, true, false, true)
+    ∷ (AtDoor, Leaving, true, false, true) ∷ (Woken, Armed, true, false, true)
+    ∷ (Woken, Woken, true, true, true) ∷ []
 each_stage = refl
 
 -- but a core that is reset is at its door
@@ -191,21 +194,23 @@ cuts_by_its_number : failing (both_come 0 ++ (Delivers 9 torn ∷ [])) ≡ Awake
 unfolding playing
 cuts_by_its_number = refl
 
--- The clauses as they stand ----------------------------------------------------------------------
+-- Each act and each run counts -------------------------------------------------------------------
 
-not_kept : (NoneCut board (after (off_called ++ (Arms 3 ∷ delivers 1 ∷ Cuts 1 1 ∷ []))) → ⊥)
-    × (IsLocked (after (on_3 ++ (Locks 0 ∷ asks 0 0x84000000 0 0 0 ∷ Unlocks 0 ∷ []))) → ⊥)
-    × (WordsTell (after (off_3 ++ (TakesUp 3 ∷ []))) → ⊥)
-    × (TakesItsLast (after (on_3 ++ (Opens 3 ∷ []))) (TakesUp 3) → ⊥)
-unfolding playing
-not_kept = (
-  λ is. false≢true (sym (is.powered 3 1 (omega arith) (omega arith) refl)),
-  λ is. false≢true (is.free refl),
-  λ is. false≢true (is.stands 3 refl),
-  λ last. none-some _ last.0,
-)
+-- core 3 goes on, though it was not started
+abbrev goes_on : List Record
+goes_on = record { event = Enter 3; said = resumes } ∷ []
 
-takes_its_last : TakesItsLast (after (on_3 ++ door 3)) (TakesUp 3)
+-- what a core takes up before the newest act, the newest run and the one before it
+each_counts : (EachTakesItsLast board (Locks 3 ∷ TakesUp 0 ∷ Opens 0 ∷ []) → ⊥)
     × EachTakesItsLast board (TakesUp 0 ∷ Opens 0 ∷ Writes 0 ∷ [])
+    × (AreLegal board (goes_on ∷ []) → ⊥) × (AreLegal board ([] ∷ goes_on ∷ []) → ⊥)
+    × (AreSafe board (goes_on ∷ []) → ⊥) × (AreSafe board ([] ∷ goes_on ∷ []) → ⊥)
 unfolding playing
-takes_its_last = search arith
+each_counts = (
+  λ each. none-some _ each.1.0.0,
+  search arith,
+  λ are. let e : resumes ≡ Ignored = are.0.0 in absurd (cc),
+  λ are. let e : resumes ≡ Ignored = are.1.0.0 in absurd (cc),
+  λ are. eqb-false 3 0 refl (are.0.0.powered 3 0 (omega arith) (omega arith) refl),
+  λ are. eqb-false 3 0 refl (are.1.0.0.powered 3 0 (omega arith) (omega arith) refl),
+)

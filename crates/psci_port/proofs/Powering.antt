@@ -1,47 +1,37 @@
 -- Each act keeps power where it has to be.
-use Rattle.std.proofs.Common.{◌<◌, ◌==◌, ◌∙◌, ◌∷◌, ◌≡◌, ◌≤◌, [], ap, arith, Bool, cond, false, List}
-use Rattle.std.proofs.Common.{Option, None, Some, refl, subst, sym, true, ℕ}
-use Rattle.std.specs.Prelude.{not, ◌&&◌}
-use Rattle.std.proofs.lemmas.Bool.{eq-eqb, eqb-true, false≢true}
+use Rattle.std.specs.Prelude.{◌&&◌, not}
+use Rattle.std.proofs.Common.{◌+◌, ◌<◌, ◌==◌, ◌∙◌, ◌∷◌, ◌≡◌, ◌≤◌, [], ap, arith, Bool, cond}
+use Rattle.std.proofs.Common.{false, List, None, Option, refl, Some, subst, sym, true, ℕ}
+use Rattle.std.proofs.lemmas.Bool.{cond-true, eq-eqb, eqb-true, false≢true}
 use Rattle.std.proofs.lemmas.Bool.Decides.{nat_tests}
-use Rattle.psci_board.specs.Board.{BoardValue, cores, height, up}
-use Rattle.psci_board.specs.Laws.{PathLaws}
-use Rattle.psci_board.specs.Paths.{is_on_path}
-use Rattle.psci_ctl_spec.specs.psci_messages.declared.start.Start.{Start}
+use Rattle.psci_board.specs.Board.{BoardValue, cores, height, PathLaws, up}
+use Rattle.psci_ctl_spec.specs.Replies.{Begins, change, Deepens, Effect, effect_of, Ends, Nothing}
+use Rattle.psci_ctl_spec.specs.Replies.{reply, Starts}
+use Rattle.psci_ctl_spec.specs.History.{IsCall, MayFollow}
+use Rattle.psci_ctl_spec.specs.Values.{start_of_life, Values}
 use Rattle.psci_ctl_spec.specs.declared.call.CtlCall.{CtlCall}
 use Rattle.psci_ctl_spec.specs.declared.call.CtlCall.TheVariants as asked
-use Rattle.psci_ctl_spec.specs.Changes.{change}
-use Rattle.psci_ctl_spec.specs.Effects.{Effect, Begins, effect_of}
-use Rattle.psci_ctl_spec.specs.Follows.{MayFollow}
-use Rattle.psci_ctl_spec.specs.Legal.{IsCall}
-use Rattle.psci_ctl_spec.specs.Replies.{reply}
-use Rattle.psci_ctl_spec.specs.Values.{Values, start_of_life}
-use Rattle.psci_world_spec.specs.psci_fw_spec.declared.outcome.Act.{Act as Outcome}
-use Rattle.psci_world_spec.specs.psci_fw_spec.declared.outcome.Act.TheVariants as outcomes
+use Rattle.psci_ctl_spec.specs.psci_messages.declared.start.Start.{Start}
 use Rattle.psci_world_spec.specs.declared.event.Event.{Event}
-use Rattle.psci_world_spec.specs.declared.event.Event.TheVariants.{Call, Enter, Wake, Reset}
-use Rattle.psci_world_spec.specs.declared.event.Event.TheVariants.{Deliver, Take}
+use Rattle.psci_world_spec.specs.declared.event.Event.TheVariants.{Deliver, Reset, Take, Wake}
 use Rattle.psci_world_spec.specs.declared.said.Record.{Record}
 use Rattle.psci_world_spec.specs.declared.said.Said.{Said}
-use Rattle.psci_world_spec.specs.declared.said.Said.TheVariants.{Fw, Kick, Acked, Ignored, Absent}
-use Rattle.psci_world_spec.specs.declared.said.Said.TheVariants.{Taken as Took}
-use Rattle.psci_port.specs.Waiting.{waits}
-use Rattle.psci_port.specs.Stages.{AtDoor, Standing, Armed}
-use Rattle.psci_port.specs.Stages.{has_stopped, is_armed, roused_at, stage_after, stage_in}
-use Rattle.psci_port.specs.Port.{Port, Row, Act, Locks, Unlocks, Calls, Enters, Takes, Finishes}
-use Rattle.psci_port.specs.Port.{TakesUp, Stands, Arms, Sleeps, Delivers, Wakes, Resets, Writes}
-use Rattle.psci_port.specs.Port.{Rouses, Rises, Turns, Opens, Cuts, Restarts, Reboots, cold}
-use Rattle.psci_port.specs.Port.{commanded, ended, finished, rising, roused, stage_at}
-use Rattle.psci_port.specs.Port.{state, step, stopping, taking_up, with_row, words}
-use Rattle.psci_port.specs.Rules.{IsPortRun, May, NoneArmed}
 use Rattle.psci_port.specs.Kept.{NoneCut}
-use Rattle.psci_port.proofs.Own.{open_moves, roused_stops}
-use Rattle.psci_port.proofs.Started.{all_down, down_core}
-use Rattle.psci_port.proofs.Locks.{Fits}
-use Rattle.psci_port.proofs.Power.{IsPowered, all_awake, arms, effect_powered, executing_powered}
-use Rattle.psci_port.proofs.Power.{first_powered, moves, moving_powered, start_spared}
-use Rattle.psci_port.proofs.Keeping.{IsKept}
+use Rattle.psci_port.specs.Port.{Act, Arms, begins, Calls, cold, commanded, Cuts, Delivers, ended}
+use Rattle.psci_port.specs.Port.{Enters, finished, Finishes, Locks, moved, Opens, Port, Reboots}
+use Rattle.psci_port.specs.Port.{Resets, Restarts, Rises, rising, roused, Rouses, Row, Sleeps}
+use Rattle.psci_port.specs.Port.{stage_at, Stands, state, step, stopping, Takes, TakesUp, taking_up}
+use Rattle.psci_port.specs.Port.{Turns, Unlocks, Wakes, with_row, words, Writes}
+use Rattle.psci_port.specs.Resting.{core_left, has_lock, row_left}
+use Rattle.psci_port.specs.Rules.{HasLock, IsPortRun, May, NoneArmed}
+use Rattle.psci_port.specs.Stages.{Armed, AtDoor, has_stopped, is_armed, Normal, stage_in, Standing}
+use Rattle.psci_port.specs.Waiting.{waits}
+use Rattle.psci_port.proofs.Locks.{Fits, IsKept}
+use Rattle.psci_port.proofs.Records.{open_moves}
+use Rattle.psci_port.proofs.Power.{all_awake, arms, effect_powered, executing_powered}
+use Rattle.psci_port.proofs.Power.{first_powered, IsPowered, moves, moving_powered}
 use Rattle.psci_port.proofs.Running.{run_kept}
+use Rattle.psci_port.proofs.Started.{all_down, down_core}
 
 abbrev pub Powered : BoardValue → Port → Type 0
 Powered b p = IsPowered b p.values (moves p.row) (arms p.row) p.cut
@@ -66,9 +56,7 @@ module _ (b : BoardValue) (p : Port) (is : Powered b p) where
       → p.cut k (up b k c) ≡ false) where
     one_still : (x : ℕ) (t : Bool) → (x == c) ≡ t → moves p.row x ≡ false
         → not (has_stopped (cond t r (p.row x)).stage) ≡ false
-    one_still x true e stopped =
-        still (subst (λ i. moves p.row i ≡ false) (eqb-true x c e) stopped)
-    one_still x false e stopped = stopped
+    one_still x t e stopped = grind (arith, nat_tests)
 
     one_armed : (x k : ℕ) (t : Bool) → (x == c) ≡ t → x < cores b → k ≤ height b
         → is_armed (cond t r (p.row x)).stage ≡ true → p.cut k (up b k x) ≡ false
@@ -78,70 +66,24 @@ module _ (b : BoardValue) (p : Port) (is : Powered b p) where
     one_armed x k false e has low a = is.spared x k has low a
 
     row_powered : Powered b (with_row p c r)
-    row_powered = record {
-      alone = λ x has deep. one_still x (x == c) refl (is.alone x has deep);
-      nested = is.nested;
-      told = is.told;
-      spared = λ x k has low a. one_armed x k (x == c) refl has low a;
-    }
+    row_powered = grind (arith, nat_tests, one_still, one_armed)
 
   -- it stays where it is
   stays_powered : (c : ℕ) (r : Row) → r.stage ≡ stage_at p c → Powered b (with_row p c r)
-  stays_powered c r same = row_powered c r
-      (λ e. ap (λ y. not (has_stopped y)) same ∙ e)
-      (λ k has low a. is.spared c k has low (sym (ap is_armed same) ∙ a))
+  stays_powered c r same = grind (arith, nat_tests)
 
   -- it goes on, and has not said that it stands
   goes_powered : (c : ℕ) (r : Row) → has_stopped (stage_at p c) ≡ false
       → is_armed r.stage ≡ false → Powered b (with_row p c r)
-  goes_powered c r moving plain = row_powered c r
-      (λ e. absurd (false≢true (sym e ∙ on (has_stopped (stage_at p c)) moving)))
-      (λ k has low a. absurd (false≢true (sym plain ∙ a)))
+  goes_powered c r moving plain = grind (arith, nat_tests)
 
   -- it says that it stands
   stops_powered : (c : ℕ) (r : Row) → has_stopped (stage_at p c) ≡ false
       → has_stopped r.stage ≡ true → Powered b (with_row p c r)
-  stops_powered c r moving stopped = row_powered c r
-      (λ e. off (has_stopped r.stage) stopped)
-      (λ k has low a. moving_powered b p.values p.row p.cut is c k has low
-      (on (has_stopped (stage_at p c)) moving))
-
-  -- it comes back out of its wait
-  roused_spared : (c x k : ℕ) (t : Bool) → (x == c) ≡ t → x < cores b → k ≤ height b
-      → is_armed (cond t (record (p.row c) { stage = roused_at (stage_at p c) }) (p.row x)).stage
-      ≡ true
-      → cond (is_on_path b c k (up b k x)) false (p.cut k (up b k x)) ≡ false
-  roused_spared c x k true e has low a =
-      let same : x ≡ c = eqb-true x c e in
-      let on_path : is_on_path b c k (up b k x) ≡ true = grind (arith, nat_tests, same) in
-      whole (is_on_path b c k (up b k x)) (p.cut k (up b k x)) on_path
-    where
-      whole : (t e : Bool) → t ≡ true → cond t false e ≡ false
-      whole true e is = refl
-      whole false e is = absurd (false≢true is)
-  roused_spared c x k false e has low a =
-      start_spared (is_on_path b c k (up b k x)) (p.cut k (up b k x)) (is.spared x k has low a)
-
-  roused_told : (t e : Bool) (n : ℕ) → (e ≡ true → 0 < n) → cond t false e ≡ true → 0 < n
-  roused_told true e n told cut = absurd (false≢true cut)
-  roused_told false e n told cut = told cut
+  stops_powered c r moving stopped = grind (arith, nat_tests, moving_powered)
 
   roused_powered : (c : ℕ) → Powered b (roused b p c)
-  roused_powered c = record {
-    alone = λ x has deep. roused_alone x (x == c) refl (is.alone x has deep);
-    nested = is.nested;
-    told = λ k place cut.
-        roused_told (is_on_path b c k place) (p.cut k place) (p.values.depth k place)
-        (is.told k place) cut;
-    spared = λ x k has low a. roused_spared c x k (x == c) refl has low a;
-  }
-    where
-      roused_alone : (x : ℕ) (t : Bool) → (x == c) ≡ t → moves p.row x ≡ false
-          → not (has_stopped (cond t (record (p.row c) { stage = roused_at (stage_at p c) })
-          (p.row x)).stage) ≡ false
-      roused_alone x true e stopped = ap not (roused_stops (stage_at p c))
-          ∙ subst (λ i. moves p.row i ≡ false) (eqb-true x c e) stopped
-      roused_alone x false e stopped = stopped
+  roused_powered c = grind (arith, nat_tests)
 
   sleeps_powered : (c : ℕ) → Powered b (with_row p c (record (p.row c) { stage = Standing }))
   sleeps_powered c = row_powered c (record (p.row c) { stage = Standing }) (λ e. refl)
@@ -149,52 +91,20 @@ module _ (b : BoardValue) (p : Port) (is : Powered b p) where
 
   -- A call of the firmware ends ------------------------------------------------------------------
 
-  after_plain : (a : Outcome) → is_armed (stage_after a) ≡ false
-  after_plain (outcomes.Return code) = refl
-  after_plain outcomes.Stop = refl
-  after_plain (outcomes.Enter address context) = refl
-  after_plain outcomes.Resume = refl
-
   ended_powered : (c : ℕ) (event : Event) (said : Said) → Fits c event (stage_at p c)
       → Powered b (with_row p c (ended (record { event = event; said = said }) (p.row c)))
-  ended_powered c (Call d regs) (Fw act sent) fits =
-      goes_powered c _ (ap has_stopped fits.1) (after_plain act)
-  ended_powered c (Call d regs) (Kick start) fits = stays_powered c _ refl
-  ended_powered c (Call d regs) (Acked index ack) fits = stays_powered c _ refl
-  ended_powered c (Call d regs) (Took taken) fits = stays_powered c _ refl
-  ended_powered c (Call d regs) Ignored fits = stays_powered c _ refl
-  ended_powered c (Call d regs) Absent fits = stays_powered c _ refl
-  ended_powered c (Enter d) (Fw act sent) fits =
-      goes_powered c _ (ap has_stopped fits.1.1) (after_plain act)
-  ended_powered c (Enter d) (Kick start) fits = stays_powered c _ refl
-  ended_powered c (Enter d) (Acked index ack) fits = stays_powered c _ refl
-  ended_powered c (Enter d) (Took taken) fits = stays_powered c _ refl
-  ended_powered c (Enter d) Ignored fits = stays_powered c _ refl
-  ended_powered c (Enter d) Absent fits = stays_powered c _ refl
-  ended_powered c (Wake d) said fits = absurd fits
-  ended_powered c (Reset d) said fits = absurd fits
-  ended_powered c (Deliver k) said fits = absurd fits
-  ended_powered c (Take k) said fits = stays_powered c _ refl
+  ended_powered c event said fits = grind (arith, nat_tests)
 
   -- The power of a domain goes -------------------------------------------------------------------
 
   cut_told : (level place k q : ℕ) (t : Bool) → (k == level && q == place) ≡ t
       → 0 < p.values.depth level place → cond t true (p.cut k q) ≡ true → 0 < p.values.depth k q
-  cut_told level place k q true e deep cut =
-      let k_is : k ≡ level = grind (arith, nat_tests) in
-      let q_is : q ≡ place = grind (arith, nat_tests) in
-      subst (λ i. 0 < p.values.depth k i) (sym q_is)
-      (subst (λ i. 0 < p.values.depth i place) (sym k_is) deep)
-  cut_told level place k q false e deep cut = is.told k q cut
+  cut_told level place k q t e deep cut = grind (arith, nat_tests)
 
   cut_spared : (level place c k : ℕ) (t : Bool) → (k == level && up b k c == place) ≡ t
       → NoneArmed b p level place → c < cores b → k ≤ height b → arms p.row c ≡ true
       → cond t true (p.cut k (up b k c)) ≡ false
-  cut_spared level place c k true e none has low a =
-      let k_is : k ≡ level = grind (arith, nat_tests) in
-      let q_is : up b k c ≡ place = grind (arith, nat_tests) in
-      absurd (false≢true (sym (none c has (subst (λ i. up b i c ≡ place) k_is q_is)) ∙ a))
-  cut_spared level place c k false e none has low a = is.spared c k has low a
+  cut_spared level place c k t e none has low a = grind (arith, nat_tests)
 
 -- All acts ---------------------------------------------------------------------------------------
 
@@ -283,11 +193,63 @@ module _ (b : BoardValue) (laws : PathLaws b)
       step_powered (state b acts) act (run_kept b acts run.1) (run_powered acts run.1) run.0
 
   pub run_none_cut : (acts : List Act) → IsPortRun b acts → NoneCut b (state b acts)
-  run_none_cut acts run =
-      let p : Port = state b acts in
-      record {
-        powered = executing_powered b p.values p.row p.cut (run_powered acts run);
-        awake = λ c level has low e.
-            all_awake b p.values p.row p.cut (run_powered acts run) c level has low
-            (on (has_stopped (stage_at p c)) e);
-      }
+  run_none_cut acts run = grind (arith, nat_tests, executing_powered, run_powered, all_awake, on)
+
+-- An acknowledgement is taken --------------------------------------------------------------------
+
+module _ (b : BoardValue) (p : Port) (c k : ℕ) (said : Said) (has : HasLock p c) where
+  abbrev rec : Record
+  rec = record { event = Take k; said = said }
+
+  abbrev mid : Port
+  mid = begins p c rec
+
+  mid_row : mid.row c ≡ record (p.row c) { begun = Some rec }
+  mid_row = cond-true (c == c) _ _ (eq-eqb c c refl)
+
+  -- the core's row is as before
+  own_row : ended rec (mid.row c) ≡ p.row c
+  own_row = ap (ended rec) mid_row ∙ ap (λ o. record (p.row c) { begun = o }) (sym has.1)
+
+  over : step b (step b p (Takes c k said)) (Finishes c) ≡ finished mid c (Some rec)
+  unfolding step
+  over = ap (λ (r : Row). finished mid c r.begun) mid_row
+
+  row_there : (d : ℕ) (t : Bool) → (d == c) ≡ t
+      → cond t (ended rec (mid.row c)) (cond t (record (p.row c) { begun = Some rec }) (p.row d))
+      ≡ p.row d
+  row_there d true e = own_row ∙ ap p.row (sym (eqb-true d c e))
+  row_there d false e = refl
+
+  -- and so is what is left of each
+  pub takes_left : (d : ℕ)
+      → core_left (step b (step b p (Takes c k said)) (Finishes c)) d ≡ core_left p d
+  takes_left d = ap (λ q. core_left q d) over
+      ∙ ap (row_left (has_lock p.lock d) (p.values.starts d) _) (row_there d (d == c) refl)
+
+-- The lock is taken ------------------------------------------------------------------------------
+
+module _ (p : Port) (c : ℕ) (free : p.lock ≡ None) where
+  -- by another core
+  pub locks_other : (d : ℕ) → (d ≡ c → ⊥) → core_left (record p { lock = Some c }) d ≡ core_left p d
+  locks_other d ne = grind (arith, nat_tests)
+
+  -- by one of the normal world
+  pub locks_own : stage_at p c ≡ Normal → (p.row c).begun ≡ None
+      → core_left (record p { lock = Some c }) c ≤ core_left p c + 1
+  locks_own at none = grind (arith, nat_tests)
+
+-- The power controller was asked -----------------------------------------------------------------
+
+module _ (b : BoardValue) (p : Port) (r : Record) where
+  -- whether it started this core, or a life ended
+  abbrev pub touches_core : Effect → ℕ → Bool
+  touches_core Nothing d = false
+  touches_core (Starts c cause) d = d == c
+  touches_core (Deepens c ps) d = false
+  touches_core Ends d = true
+  touches_core Begins d = true
+
+  pub moves_left : (g : Effect) (d : ℕ) → touches_core g d ≡ false
+      → core_left (moved b p g r) d ≡ core_left p d
+  moves_left g d e = grind (arith, nat_tests)

@@ -1,49 +1,117 @@
 -- A run of lives that the boot core ended leaves the power controller as it goes on.
-use Rattle.std.proofs.Common.{◌<◌, ◌==◌, ◌∙◌, ◌∷◌, ◌++◌, ◌≡◌, [], ap, arith, length, List, Option}
-use Rattle.std.proofs.Common.{None, Some, refl, subst, suc, sym, zero, ℕ}
+use Rattle.std.proofs.Common.{◌<◌, ◌∙◌, ◌∷◌, ◌≡◌, [], ap, arith, false, length, List, None, Option}
+use Rattle.std.proofs.Common.{refl, Some, subst, suc, sym, zero, ℕ}
 use Rattle.std.proofs.Math.Numerals.{suc-eq-add-one}
+use Rattle.std.proofs.lemmas.Bool.{cond-false, cond-true, lt-ltb, ne_eqb}
+use Rattle.std.proofs.lemmas.Bool.Decides.{nat_tests}
 use Rattle.psci_board.specs.Board.{BoardValue, cores}
+use Rattle.psci_ctl_spec.specs.Replies.{after, Begins, change, delivery_of, effect_of, last_start}
+use Rattle.psci_ctl_spec.specs.Replies.{reply}
+use Rattle.psci_ctl_spec.specs.Values.{CtlExchange, first_cause, first_depth, first_starts}
+use Rattle.psci_ctl_spec.specs.Values.{start_of_life, Values}
+use Rattle.psci_ctl_spec.specs.History.{values_of}
+use Rattle.psci_ctl_spec.specs.declared.call.CtlCall.TheVariants as asked
 use Rattle.psci_ctl_spec.specs.psci_messages.Message.{MessageValue}
 use Rattle.psci_ctl_spec.specs.psci_messages.declared.kind.Kind.TheVariants as kinds
+use Rattle.psci_ctl_spec.specs.psci_messages.declared.start.Cause.TheVariants as causes
 use Rattle.psci_ctl_spec.specs.psci_messages.declared.start.Start.{Start}
-use Rattle.psci_ctl_spec.specs.declared.call.CtlCall.TheVariants as asked
-use Rattle.psci_ctl_spec.specs.Changes.{after, change, next_life}
-use Rattle.psci_ctl_spec.specs.Effects.{Begins, effect_of}
-use Rattle.psci_ctl_spec.specs.Exchange.{CtlExchange}
-use Rattle.psci_ctl_spec.specs.History.{values_of}
-use Rattle.psci_ctl_spec.specs.Replies.{last_start, reply}
-use Rattle.psci_ctl_spec.specs.Values.{Values, first_cause, first_depth, first_starts}
-use Rattle.psci_ctl_spec.specs.Values.{start_of_life}
-use Rattle.psci_world_spec.specs.psci_fw_spec.declared.call.FwCall.TheVariants as calls
-use Rattle.psci_world_spec.specs.psci_fw_spec.declared.outcome.Act.TheVariants as outcomes
-use Rattle.psci_world_spec.specs.psci_fw_spec.declared.reply.FwReply.TheVariants as replies
-use Rattle.psci_world_spec.specs.psci_fw_spec.After as later
-use Rattle.psci_world_spec.specs.psci_fw_spec.Answer.{answer}
-use Rattle.psci_world_spec.specs.psci_fw_spec.Exchange.{FwExchange}
-use Rattle.psci_world_spec.specs.psci_fw_spec.History as remembers
-use Rattle.psci_world_spec.specs.psci_fw_spec.Outcomes.{message_for, stops_with}
-use Rattle.psci_world_spec.specs.psci_fw_spec.Said.{listed}
-use Rattle.psci_world_spec.specs.psci_fw_spec.Values as remembered
-use Rattle.psci_world_spec.specs.declared.event.Event.TheVariants.{Call, Enter, Deliver}
-use Rattle.psci_world_spec.specs.declared.place.Place.TheVariants.{Running}
+use Rattle.psci_world_spec.specs.Legal.{acks, controller_history, controller_values}
+use Rattle.psci_world_spec.specs.Legal.{firmware_history, firmware_values, indexed, IsLegalPast}
+use Rattle.psci_world_spec.specs.Legal.{legal, place, said_by, said_of, sent, sent_as}
+use Rattle.psci_world_spec.specs.declared.event.Event.TheVariants.{Call, Deliver, Enter}
+use Rattle.psci_world_spec.specs.declared.place.Place.{Place}
+use Rattle.psci_world_spec.specs.declared.place.Place.TheVariants.{Running, Started, Stopped}
 use Rattle.psci_world_spec.specs.declared.said.Record.{Record}
 use Rattle.psci_world_spec.specs.declared.said.Said.{Said}
 use Rattle.psci_world_spec.specs.declared.said.Said.TheVariants.{Fw}
-use Rattle.psci_world_spec.specs.Histories.{acks, controller_history, controller_values}
-use Rattle.psci_world_spec.specs.Histories.{firmware_history, firmware_values, sent}
-use Rattle.psci_world_spec.specs.Histories as histories
-use Rattle.psci_world_spec.specs.Legal.{IsLegalPast, legal, said_by, said_of, sent_as}
-use Rattle.psci_world_spec.specs.Lists.{indexed}
-use Rattle.psci_world_spec.specs.Places.{place}
-use Rattle.psci_headline.proofs.Finding.{numbered_new}
-use Rattle.psci_port.specs.Stages.{place_of}
-use Rattle.psci_port.specs.Port.{first_row}
+use Rattle.psci_world_spec.specs.psci_fw_spec.Effects as later
+use Rattle.psci_world_spec.specs.psci_fw_spec.Answer.{answer, enter_outcome, outcome_of}
+use Rattle.psci_world_spec.specs.psci_fw_spec.Effects.{FwExchange}
+use Rattle.psci_world_spec.specs.psci_fw_spec.History as remembers
+use Rattle.psci_world_spec.specs.psci_fw_spec.Changes as lives
+use Rattle.psci_world_spec.specs.psci_fw_spec.PowerCalls.{message_for, stops_with}
+use Rattle.psci_world_spec.specs.psci_fw_spec.Phases as phases
+use Rattle.psci_world_spec.specs.psci_fw_spec.Values as remembered
+use Rattle.psci_world_spec.specs.psci_fw_spec.declared.call.FwCall.TheVariants as calls
+use Rattle.psci_world_spec.specs.psci_fw_spec.declared.outcome.Act.TheVariants as outcomes
+use Rattle.psci_world_spec.specs.psci_fw_spec.declared.outcome.Outcome.{Outcome}
+use Rattle.psci_world_spec.specs.psci_fw_spec.declared.reply.FwReply.TheVariants as replies
+use Rattle.psci_headline.proofs.Serving.{numbered_new}
+use Rattle.psci_port.specs.Port.{blank, first_row, Row}
 use Rattle.psci_port.specs.Rebooted.{followed, rebooted, reset_call}
-use Rattle.psci_port.proofs.Booting.{arrived, arrived_halting, arrived_life, arrived_phase}
-use Rattle.psci_port.proofs.Booting.{asked_life, at_boot, begins_next, boot_start, is_asked}
-use Rattle.psci_port.proofs.Booting.{is_entered, some_row}
-use Rattle.psci_port.proofs.Records.{Moves, call_legal, deliver_legal, enter_legal, first_place_is}
-use Rattle.psci_port.proofs.Records.{moves, sends_none}
+use Rattle.psci_port.specs.Stages.{AtDoor, Normal, place_of, Standing}
+use Rattle.psci_port.proofs.Records.{call_legal, deliver_legal, enter_legal, Moves, moves}
+
+-- Booting -----------------------------------------------------------------------------------------
+-- The boot core enters in a new life, calls SYSTEM_RESET, and the power controller carries it out.
+
+-- The boot core enters ---------------------------------------------------------------------------
+
+abbrev pub boot_start : ℕ → Start
+boot_start life = record { life = life; number = 1; cause = causes.Boot }
+
+abbrev pub at_boot : BoardValue → Outcome
+at_boot b = record { act = outcomes.Enter b.boot 0; message = None }
+
+finds : (b : BoardValue) (v : remembered.Values) (n : ℕ) → v.life ≡ n
+    → lives.in_life b (suc n) v ≡ lives.start_of_life b (suc n)
+finds b v n life = cond-false _ _ _ (ne_eqb (suc n) v.life (λ e. omega (arith, life, e)))
+
+pub is_entered : (b : BoardValue) (v : remembered.Values) (n : ℕ) → v.life ≡ n → 0 < cores b
+    → 0 < b.starts → suc n < b.lives
+    → answer b v 0 (calls.Enter (boot_start (suc n))) ≡ replies.Out (at_boot b)
+unfolding answer enter_outcome
+is_entered b v n life has some low =
+    let found = finds b v n life in grind (arith, nat_tests, cond-true, lt-ltb, found)
+
+-- what the entry leaves
+abbrev pub arrived : BoardValue → remembered.Values → ℕ → remembered.Values
+arrived b v n =
+    later.after b 0 (calls.Enter (boot_start (suc n))) (replies.Out (at_boot b)) v
+
+pub arrived_life : (b : BoardValue) (v : remembered.Values) (n : ℕ) → v.life ≡ n
+    → (arrived b v n).life ≡ suc n
+unfolding later.after
+arrived_life b v n life = ap (λ (w : remembered.Values). w.life) (finds b v n life)
+
+pub arrived_halting : (b : BoardValue) (v : remembered.Values) (n : ℕ) → v.life ≡ n
+    → (arrived b v n).halting ≡ false
+unfolding later.after
+arrived_halting b v n life = ap (λ (w : remembered.Values). w.halting) (finds b v n life)
+
+pub arrived_phase : (b : BoardValue) (v : remembered.Values) (n : ℕ)
+    → (arrived b v n).phase 0 ≡ phases.Running
+unfolding later.after
+arrived_phase b v n = refl
+
+-- It calls SYSTEM_RESET --------------------------------------------------------------------------
+
+pub is_asked : (b : BoardValue) (v : remembered.Values) (n : ℕ) → v.life ≡ suc n
+    → v.halting ≡ false → v.phase 0 ≡ phases.Running → 0 < cores b
+    → answer b v 0 (calls.Smc reset_call)
+    ≡ replies.Out (stops_with (message_for v kinds.Reset 0 []))
+unfolding answer outcome_of
+is_asked b v n life halting running has = grind (arith, nat_tests, cond-true, lt-ltb)
+
+pub asked_life : (b : BoardValue) (v : remembered.Values) (m : MessageValue)
+    → (later.after b 0 (calls.Smc reset_call) (replies.Out (stops_with m)) v).life ≡ v.life
+unfolding later.after
+asked_life b v m = refl
+
+-- And the message is delivered -------------------------------------------------------------------
+
+pub begins_next : (b : BoardValue) (v : Values) (m : MessageValue) → v.life ≡ Some m.life
+    → m.kind ≡ kinds.Reset → m.life < b.lives
+    → effect_of b (asked.Deliver m) (reply b v (asked.Deliver m)) ≡ Begins
+unfolding effect_of reply delivery_of
+begins_next b v m life kind low = grind (arith, nat_tests)
+
+pub some_row : (p : Place) → (r : Row) × (p ≡ place_of r.stage)
+some_row Started = (blank AtDoor, refl)
+some_row Running = (blank Normal, refl)
+some_row Stopped = (blank Standing, refl)
+
+-- Rebooting ---------------------------------------------------------------------------------------
 
 -- as the power controller begins this life
 abbrev pub life_values : BoardValue → ℕ → Values
@@ -98,10 +166,7 @@ module _ (b : BoardValue)
     entered_history : (o : Option Start) → last_start (controller_values b past) 0 ≡ o
         → firmware_history b entered ≡ entry_of o
     unfolding firmware_history
-    entered_history None e =
-        ap (λ x. histories.entered 0 x (at_boot b) ++ firmware_history b past) e
-    entered_history (Some s) e =
-        ap (λ x. histories.entered 0 x (at_boot b) ++ firmware_history b past) e
+    entered_history o e = grind (arith, nat_tests)
 
     values_then : firmware_values b entered ≡ w
     values_then =
@@ -145,10 +210,7 @@ module _ (b : BoardValue)
     sent_called = refl
 
     at_call : indexed (sent called) n ≡ Some message
-    at_call =
-        ap (λ ms. indexed ms n) sent_called
-        ∙ subst (λ k. indexed (message ∷ sent past) k ≡ Some message) is.sends
-        (numbered_new message (sent past))
+    at_call = grind (arith, nat_tests, sent_called, numbered_new)
 
     same_values : controller_values b called ≡ controller_values b past
     unfolding controller_history
@@ -156,14 +218,7 @@ module _ (b : BoardValue)
 
     life_called : (firmware_values b called).life ≡ suc n
     unfolding firmware_history
-    life_called =
-        ap (λ (u : remembered.Values). u.life) (kept (record {
-          core = 0;
-          call = calls.Smc reset_call;
-          reply = replies.Out (stops_with message);
-        }) (firmware_history b entered))
-        ∙ asked_life b (firmware_values b entered) message
-        ∙ ap (λ (u : remembered.Values). u.life) values_then ∙ arrived_life b v n is.life
+    life_called = grind (arith, nat_tests, asked_life, arrived_life)
 
     abbrev delivered_said : Said
     delivered_said = said_by (length (acks called))
@@ -173,9 +228,7 @@ module _ (b : BoardValue)
     said_delivery = sym (deliver_legal b called n message at_call)
 
     life_then : (controller_values b called).life ≡ Some message.life
-    life_then =
-        ap (λ (u : Values). u.life) (same_values ∙ is.values)
-        ∙ ap (λ l. Some l) (sym (arrived_life b v n is.life))
+    life_then = grind (arith, nat_tests, same_values, arrived_life)
 
     begins_so : effect_of b (asked.Deliver message)
         (reply b (controller_values b called) (asked.Deliver message)) ≡ Begins
@@ -191,10 +244,7 @@ module _ (b : BoardValue)
 
     sends_then : length (sent (delivery ∷ called)) ≡ suc n
     unfolding sent
-    sends_then =
-        ap (λ o. length (listed o ++ (message ∷ sent past))) (sends_none (length (acks called))
-        (reply b (controller_values b called) (asked.Deliver message)))
-        ∙ ap suc is.sends
+    sends_then = grind (arith, nat_tests)
 
     life_delivered : (firmware_values b (delivery ∷ called)).life ≡ suc n
     unfolding firmware_history
@@ -211,22 +261,12 @@ module _ (b : BoardValue)
 
     all_said : followed b (followed b (followed b past (Enter 0)) (Call 0 reset_call)) (Deliver n)
         ≡ delivery ∷ called
-    all_said =
-        ap (λ said. followed b (followed b (record { event = Enter 0; said = said } ∷ past)
-        (Call 0 reset_call)) (Deliver n)) said_entry
-        ∙ ap (λ said. followed b (record { event = Call 0 reset_call; said = said } ∷ entered)
-        (Deliver n)) said_call
-        ∙ ap (λ said. record { event = Deliver n; said = said } ∷ called) said_delivery
+    all_said = grind (arith, nat_tests, said_entry, said_call, said_delivery)
 
   module _ (begin : values_of b [] ≡ start_of_life b) where
     first_rebooted : IsRebooted b zero []
     unfolding controller_history place firmware_history sent remembers.values_of
-    first_rebooted = record {
-      values = begin;
-      places = λ c. first_place_is (c == 0);
-      sends = refl;
-      life = refl;
-    }
+    first_rebooted = grind (arith, nat_tests)
 
     pub are_rebooted : (n : ℕ) → n < b.lives → IsRebooted b n (rebooted b n)
     unfolding rebooted
@@ -247,11 +287,4 @@ rebooted_legal b (suc n) = (refl, (refl, (refl, rebooted_legal b n)))
 -- and leaves the values with which the power controller goes on
 pub goes_on : (b : BoardValue) (v : Values) (n : ℕ) → v.life ≡ Some n
     → life_values b (suc n) ≡ change b Begins v
-goes_on b v n life =
-    ap (life_values b) (suc-eq-add-one n)
-    ∙ ap (λ o. record {
-      life = next_life o;
-      starts = first_starts;
-      cause = first_cause;
-      depth = first_depth b;
-    }) (sym life)
+goes_on b v n life = grind (arith, nat_tests)

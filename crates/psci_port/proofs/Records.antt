@@ -1,72 +1,113 @@
 -- What a record leaves of the world: where each core is, what the power controller keeps, and what
 -- the firmware answers next.
-use Rattle.std.proofs.Common.{◌<◌, ◌==◌, ◌∙◌, ◌∷◌, ◌≡◌, ◌++◌, ap, arith, Bool, cond, false}
-use Rattle.std.proofs.Common.{List, length, Option, None, Some, refl, subst, sym, true, ℕ}
-use Rattle.std.proofs.Common.{unwrap_or}
+use Rattle.std.proofs.Common.{◌++◌, ◌<◌, ◌==◌, ◌∙◌, ◌∷◌, ◌≡◌, ap, arith, Bool, cond, false, length}
+use Rattle.std.proofs.Common.{List, None, Option, Some, subst, sym, true, ℕ}
 use Rattle.std.proofs.lemmas.Bool.Decides.{nat_tests}
 use Rattle.psci_board.specs.Board.{BoardValue, cores}
-use Rattle.psci_ctl_spec.specs.psci_messages.Message.{AckValue, MessageValue}
-use Rattle.psci_ctl_spec.specs.psci_messages.declared.start.Cause.TheVariants as causes
-use Rattle.psci_ctl_spec.specs.psci_messages.declared.start.Start.{Start}
+use Rattle.psci_ctl_spec.specs.Replies.{ack_by, after, change, delivery_of, Effect, effect_of}
+use Rattle.psci_ctl_spec.specs.Replies.{is_this_life, kick_effect, last_start, reply, reset_of}
+use Rattle.psci_ctl_spec.specs.Replies.{Starts, wake_of}
+use Rattle.psci_ctl_spec.specs.Values.{CtlExchange, Values}
+use Rattle.psci_ctl_spec.specs.History.{values_of}
 use Rattle.psci_ctl_spec.specs.declared.call.CtlCall.{CtlCall}
 use Rattle.psci_ctl_spec.specs.declared.call.CtlCall.TheVariants as asked
 use Rattle.psci_ctl_spec.specs.declared.delivery.Delivery.TheVariants as deliveries
 use Rattle.psci_ctl_spec.specs.declared.kick.Kick.{Kick}
-use Rattle.psci_ctl_spec.specs.declared.kick.Kick.TheVariants as kicks
 use Rattle.psci_ctl_spec.specs.declared.reply.CtlReply.{CtlReply}
 use Rattle.psci_ctl_spec.specs.declared.reply.CtlReply.TheVariants as replies
-use Rattle.psci_ctl_spec.specs.Changes.{after, change}
-use Rattle.psci_ctl_spec.specs.Effects.{Effect, Nothing, Starts, Deepens, Ends, Begins, effect_of}
-use Rattle.psci_ctl_spec.specs.Effects.{kick_effect, message_effect}
-use Rattle.psci_ctl_spec.specs.Exchange.{CtlExchange}
-use Rattle.psci_ctl_spec.specs.History.{values_of}
-use Rattle.psci_ctl_spec.specs.Replies.{ack_by, delivery_of, is_this_life, last_start, reply}
-use Rattle.psci_ctl_spec.specs.Replies.{reset_of, wake_of}
-use Rattle.psci_ctl_spec.specs.Values.{Values}
-use Rattle.psci_world_spec.specs.psci_abi.declared.registers.Regs.{Regs}
-use Rattle.psci_world_spec.specs.psci_fw_spec.declared.call.FwCall.{FwCall}
-use Rattle.psci_world_spec.specs.psci_fw_spec.declared.call.FwCall.TheVariants as calls
-use Rattle.psci_world_spec.specs.psci_fw_spec.Answer.{answer}
-use Rattle.psci_world_spec.specs.psci_fw_spec.Said.{listed}
-use Rattle.psci_world_spec.specs.psci_fw_spec.Values as remembered
+use Rattle.psci_ctl_spec.specs.psci_messages.Message.{AckValue, MessageValue}
+use Rattle.psci_ctl_spec.specs.psci_messages.declared.start.Cause.TheVariants as causes
+use Rattle.psci_ctl_spec.specs.psci_messages.declared.start.Start.{Start}
+use Rattle.psci_world_spec.specs.Legal.{acks, asked_controller, asked_firmware, controller_history}
+use Rattle.psci_world_spec.specs.Legal.{controller_values, deliver, firmware_history}
+use Rattle.psci_world_spec.specs.Legal.{firmware_values, if_running, indexed, legal, on_board}
+use Rattle.psci_world_spec.specs.Legal.{place, said_by, said_of, sent, sent_in, take}
 use Rattle.psci_world_spec.specs.declared.event.Event.{Event}
-use Rattle.psci_world_spec.specs.declared.event.Event.TheVariants.{Call, Enter, Wake, Reset}
-use Rattle.psci_world_spec.specs.declared.event.Event.TheVariants.{Deliver, Take}
-use Rattle.psci_world_spec.specs.declared.place.Place.{Place}
-use Rattle.psci_world_spec.specs.declared.place.Place.TheVariants.{Started, Running, Stopped}
+use Rattle.psci_world_spec.specs.declared.event.Event.TheVariants.{Call, Deliver, Enter, Reset}
+use Rattle.psci_world_spec.specs.declared.event.Event.TheVariants.{Take, Wake}
+use Rattle.psci_world_spec.specs.declared.place.Place.TheVariants.{Running, Started, Stopped}
 use Rattle.psci_world_spec.specs.declared.said.Record.{Record}
 use Rattle.psci_world_spec.specs.declared.said.Said.{Said}
-use Rattle.psci_world_spec.specs.Histories.{ack_in, acks, controller_history, controller_values}
-use Rattle.psci_world_spec.specs.Histories.{delivered, firmware_history, firmware_values, sent}
-use Rattle.psci_world_spec.specs.Histories.{sent_in}
-use Rattle.psci_world_spec.specs.Legal.{asked_controller, asked_firmware, deliver, if_running}
-use Rattle.psci_world_spec.specs.Legal.{if_started, if_stopped, legal, on_board, said_by}
-use Rattle.psci_world_spec.specs.Legal.{said_of, take}
-use Rattle.psci_world_spec.specs.Lists.{indexed}
-use Rattle.psci_world_spec.specs.Places.{place, place_controlled, place_of_effect}
-use Rattle.psci_headline.proofs.Finding.{numbered_old}
-use Rattle.psci_port.specs.Stages.{AtDoor, Standing, place_of}
-use Rattle.psci_port.specs.Port.{Row, blank, row_by, started}
-use Rattle.psci_port.proofs.Rows.{once_started}
+use Rattle.psci_world_spec.specs.psci_abi.declared.registers.Regs.{Regs}
+use Rattle.psci_world_spec.specs.psci_fw_spec.Answer.{answer}
+use Rattle.psci_world_spec.specs.psci_fw_spec.Effects.{listed}
+use Rattle.psci_world_spec.specs.psci_fw_spec.Values as remembered
+use Rattle.psci_world_spec.specs.psci_fw_spec.declared.call.FwCall.{FwCall}
+use Rattle.psci_world_spec.specs.psci_fw_spec.declared.call.FwCall.TheVariants as calls
+use Rattle.psci_headline.proofs.Serving.{numbered_old}
+use Rattle.psci_port.specs.Port.{held_by, Row, row_by, stopping}
+use Rattle.psci_port.specs.Stages.{AtDoor, has_stopped, is_inside, is_started, place_of, roused_at}
+use Rattle.psci_port.specs.Stages.{Stage, stage_in, Standing, Woken}
+use Rattle.psci_port.proofs.Rows.{entering_by, IsRow}
 
--- An effect moves a core as the world says.
-pub first_place_is : (t : Bool)
-    → cond t Started Stopped ≡ place_of (cond t (blank AtDoor) (blank Standing)).stage
-first_place_is true = refl
-first_place_is false = refl
+-- An interrupt ---------------------------------------------------------------------------------
 
-moves_so : (c : ℕ) (f : Effect) (r : Row) (p : Place) → p ≡ place_of r.stage
-    → unwrap_or (place_of_effect c f) p ≡ place_of (row_by c f r).stage
-moves_so c Nothing r p e = e
-moves_so c (Starts d cause) r p e = by (c == d)
-  where
-    by : (t : Bool) → unwrap_or (cond t (Some Started) None) p
-        ≡ place_of (cond t (started cause r) r).stage
-    by true = once_started (λ y. Started ≡ place_of y) refl refl cause r.stage
-    by false = e
-moves_so c (Deepens d ps) r p e = e
-moves_so c Ends r p e = refl
-moves_so c Begins r p e = first_place_is (c == 0)
+pub roused_place : (y : Stage) → place_of y ≡ place_of (roused_at y)
+roused_place y = grind arith
+
+-- A core's own acts ------------------------------------------------------------------------------
+
+module _ (s : ℕ) (l : Option Start) (r : Row) (is : IsRow s l r) where
+  -- it says that it stands
+  pub stops_is : (y : Stage) → is_inside r.stage ≡ true → has_stopped y ≡ true
+      → is_inside y ≡ false → entering_by y ≡ None → is_started y ≡ false
+      → IsRow s l (stopping y r)
+  stops_is y inside stopped out none gone = search (is, arith)
+
+  -- and comes to its WFI
+  pub sleeps_is : has_stopped r.stage ≡ true → IsRow s l (record r { stage = Standing })
+  sleeps_is stopped = search (is, arith)
+
+  -- it was armed, and goes to its door
+  pub turns_is : r.stage ≡ Woken → IsRow s l (record r { stage = AtDoor })
+  turns_is at = search (is, arith)
+
+  -- it comes back out of its wait
+  pub rouses_is : IsRow s l (record r { stage = roused_at r.stage })
+  rouses_is = search (is, arith)
+
+  -- its start is written at its door, and that is opened
+  pub writes_is : IsRow s l (record r { door = l })
+  writes_is = search (is, arith)
+
+  pub opens_is : r.door ≡ l → IsRow s l (record r { opened = s; held = false })
+  opens_is shows = search (is, arith)
+
+  -- what is open and not used is its last start
+  pub open_last : r.held ≡ false → (r.opened == r.used) ≡ false → r.opened ≡ s
+  open_last free new = grind (is, arith, nat_tests)
+
+  pub open_new : r.held ≡ false → (r.opened == r.used) ≡ false → r.used < s
+  open_new free new = grind (is, arith, nat_tests)
+
+  -- the core of such a door has not stopped
+  pub open_moves : (r.opened == r.used) ≡ false → has_stopped r.stage ≡ true → ⊥
+  open_moves new stopped = grind (is, arith, nat_tests)
+
+  -- it takes that start up
+  pub takes_up : (d : Option Start) → r.door ≡ d → r.held ≡ false
+      → (r.opened == r.used) ≡ false
+      → IsRow s l (record r { used = r.opened; stage = stage_in d })
+  takes_up None at free new = search (is, arith, nat_tests)
+  takes_up (Some t) at free new = search (is, arith, nat_tests)
+
+-- Held --------------------------------------------------------------------------------------------
+-- Whom the power controller holds in reset: no core that it starts by a message or a wake-up.
+
+-- whether a core that was started is held
+abbrev pub held_after : Effect → Bool → Bool
+held_after (Starts c cause) x = held_by cause x
+held_after f x = x
+
+pub delivered_held : (b : BoardValue) (m : MessageValue) (r : CtlReply) (x : Bool)
+    → held_after (effect_of b (asked.Deliver m) r) x ≡ x
+unfolding effect_of
+delivered_held b m r x = grind (arith, nat_tests)
+
+pub woken_held : (b : BoardValue) (c halted : ℕ) (r : CtlReply) (x : Bool)
+    → held_after (effect_of b (asked.Wake (record { number = c }) halted) r) x ≡ x
+unfolding effect_of
+woken_held b c halted r x = grind (arith, nat_tests)
 
 -- The power controller is asked ------------------------------------------------------------------
 
@@ -94,27 +135,13 @@ module _ (b : BoardValue) (past : List Record)
       → Moves b past (record { event = Reset c; said = said_by n (replies.Kick k) })
       (kick_effect c causes.Reset k) v
   unfolding controller_history place after effect_of
-  reset_moves c n (kicks.Started s) = record {
-    values = more (record {
-      call = asked.Reset (record { number = c });
-      reply = replies.Kick (kicks.Started s);
-    }) (controller_history b past);
-    places = λ x row e. moves_so x (Starts c causes.Reset) row (place b past x) e;
-  }
-  reset_moves c n kicks.Ignored = record { values = refl; places = λ x row e. e }
+  reset_moves c n k = grind (arith, nat_tests)
 
   wake_moves : (c n : ℕ) (k : Kick)
       → Moves b past (record { event = Wake c; said = said_by n (replies.Kick k) })
       (kick_effect c causes.Wake k) v
   unfolding controller_history place after effect_of
-  wake_moves c n (kicks.Started s) = record {
-    values = more (record {
-      call = asked.Wake (record { number = c }) (v.starts c);
-      reply = replies.Kick (kicks.Started s);
-    }) (controller_history b past);
-    places = λ x row e. moves_so x (Starts c causes.Wake) row (place b past x) e;
-  }
-  wake_moves c n kicks.Ignored = record { values = refl; places = λ x row e. e }
+  wake_moves c n k = grind (arith, nat_tests)
 
   message_moves : (k n : ℕ) (m : MessageValue) (a : AckValue) (t : Bool)
       → indexed (sent past) k ≡ Some m
@@ -127,17 +154,7 @@ module _ (b : BoardValue) (past : List Record)
       (effect_of b (asked.Deliver m) (replies.Delivery
       (cond t (deliveries.Applied a) deliveries.Ignored))) v
   unfolding controller_history place after effect_of
-  message_moves k n m a true at = record {
-    values = ap (λ o. values_of b (delivered o a ++ controller_history b past)) at
-        ∙ more (record {
-          call = asked.Deliver m;
-          reply = replies.Delivery (deliveries.Applied a);
-        }) (controller_history b past);
-    places = λ x row e.
-        ap (λ o. unwrap_or (place_controlled b x (delivered o a)) (place b past x)) at
-        ∙ moves_so x (message_effect b m a m.kind) row (place b past x) e;
-  }
-  message_moves k n m a false at = record { values = refl; places = λ x row e. e }
+  message_moves k n m a t at = grind (arith, nat_tests)
 
   pub moves : (event : Event) (call : CtlCall) → Names past event call
       → Moves b past (record { event = event; said = asked_controller b past call })
@@ -181,10 +198,7 @@ pub record Spares (b : BoardValue) (past : List Record) (r : Record) : Type 0 wh
       → indexed (acks (r ∷ past)) k ≡ Some a
 
 pub sends_none : (n : ℕ) (r : CtlReply) → sent_in (said_by n r) ≡ None
-sends_none n (replies.Delivery (deliveries.Applied ack)) = refl
-sends_none n (replies.Delivery deliveries.Ignored) = refl
-sends_none n (replies.Kick (kicks.Started s)) = refl
-sends_none n (replies.Kick kicks.Ignored) = refl
+sends_none n r = grind (arith, nat_tests)
 
 listed_old : (o : Option AckValue) (made : List AckValue) (k : ℕ) (a : AckValue)
     → indexed made k ≡ Some a → indexed (listed o ++ made) k ≡ Some a
@@ -198,24 +212,13 @@ same_answer : (b : BoardValue) (past : List Record) (r : Record)
     → firmware_values b (r ∷ past) ≡ firmware_values b past → sent_in r.said ≡ None
     → Spares b past r
 unfolding sent acks
-same_answer b past r same none = record {
-  asked = λ c call.
-      sym (ap (λ ms. answered b (length ms) (firmware_values b (r ∷ past)) c call)
-      (ap (λ o. listed o ++ sent past) none)
-      ∙ ap (λ f. answered b (length (sent past)) f c call) same);
-  acks = λ k a at. listed_old (ack_in r.said) (acks past) k a at;
-}
+same_answer b past r same none = grind (arith, nat_tests, length, listed_old)
 
 pub told_spares : (b : BoardValue) (past : List Record) (event : Event) (call : CtlCall) (n : ℕ)
     (r : CtlReply) → Names past event call
     → Spares b past (record { event = event; said = said_by n r })
 unfolding firmware_history
-told_spares b past (Deliver k) call n r names = same_answer b past _ refl (sends_none n r)
-told_spares b past (Wake c) call n r names = same_answer b past _ refl (sends_none n r)
-told_spares b past (Reset c) call n r names = same_answer b past _ refl (sends_none n r)
-told_spares b past (Call c regs) call n r names = elim names [ ]
-told_spares b past (Enter c) call n r names = elim names [ ]
-told_spares b past (Take k) call n r names = elim names [ ]
+told_spares b past event call n r names = grind (arith, nat_tests, same_answer, sends_none)
 
 -- What is legal to say ---------------------------------------------------------------------------
 
@@ -233,10 +236,7 @@ pub enter_legal : (b : BoardValue) (past : List Record) (c : ℕ) (s : Start) �
     → place b past c ≡ Started → last_start (controller_values b past) c ≡ Some s
     → asked_firmware b past c (calls.Enter s) ≡ legal b past (Enter c)
 unfolding legal
-enter_legal b past c s on at last =
-    sym (there b c _ on
-    ∙ ap (λ p. if_started b past c p (last_start (controller_values b past) c)) at
-    ∙ ap (λ o. if_started b past c Started o) last)
+enter_legal b past c s on at last = grind (arith, nat_tests)
 
 pub take_legal : (b : BoardValue) (past : List Record) (k : ℕ) (a : AckValue)
     → indexed (acks past) k ≡ Some a
@@ -248,11 +248,7 @@ pub wake_legal : (b : BoardValue) (past : List Record) (c halted : ℕ) → c < 
     → place b past c ≡ Stopped → halted ≡ (controller_values b past).starts c
     → asked_controller b past (asked.Wake (record { number = c }) halted) ≡ legal b past (Wake c)
 unfolding legal
-wake_legal b past c halted on at same =
-    sym (there b c _ on
-    ∙ ap (λ p. if_stopped p (asked_controller b past (asked.Wake (record { number = c })
-    ((controller_values b past).starts c)))) at
-    ∙ ap (λ n. asked_controller b past (asked.Wake (record { number = c }) n)) (sym same))
+wake_legal b past c halted on at same = grind (arith, nat_tests)
 
 pub reset_legal : (b : BoardValue) (past : List Record) (c : ℕ) → c < cores b
     → asked_controller b past (asked.Reset (record { number = c })) ≡ legal b past (Reset c)

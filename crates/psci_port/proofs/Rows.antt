@@ -1,21 +1,19 @@
 -- What holds of each core between any two acts, by its starts and its last start, and that each act
 -- keeps it.
-use Rattle.std.proofs.Common.{◌+◌, ◌<◌, ◌==◌, ◌∙◌, ◌≡◌, ◌≤◌, ap, arith, Bool, cond, false}
-use Rattle.std.proofs.Common.{Option, None, Some, refl, subst, sym, true, ℕ}
+use Rattle.std.proofs.Common.{◌+◌, ◌<◌, ◌==◌, ◌∙◌, ◌≡◌, ◌≤◌, ap, arith, Bool, cond, false, None}
+use Rattle.std.proofs.Common.{Option, refl, Some, subst, sym, true, ℕ}
 use Rattle.std.proofs.lemmas.Option.{none-some}
 use Rattle.std.proofs.lemmas.Bool.{eqb-true, false≢true}
 use Rattle.psci_board.specs.Board.{BoardValue}
 use Rattle.psci_ctl_spec.specs.psci_messages.declared.start.Cause.{Cause}
 use Rattle.psci_ctl_spec.specs.psci_messages.declared.start.Cause.TheVariants as causes
 use Rattle.psci_ctl_spec.specs.psci_messages.declared.start.Start.{Start}
-use Rattle.psci_ctl_spec.specs.Changes.{change}
-use Rattle.psci_ctl_spec.specs.Effects.{Effect, Nothing, Starts, Deepens, Ends, Begins}
-use Rattle.psci_ctl_spec.specs.Replies.{last_start, start_shown}
+use Rattle.psci_ctl_spec.specs.Replies.{Begins, change, Deepens, Effect, Ends, last_start}
+use Rattle.psci_ctl_spec.specs.Replies.{Nothing, start_shown, Starts}
 use Rattle.psci_ctl_spec.specs.Values.{Values, first_starts}
-use Rattle.psci_port.specs.Stages.{Stage, Standing, AtDoor, Entering, Normal, Leaving, Armed}
-use Rattle.psci_port.specs.Stages.{Woken, has_stopped, is_inside, is_started, started_at}
+use Rattle.psci_port.specs.Stages.{Armed, AtDoor, Entering, has_stopped, is_inside, is_started}
+use Rattle.psci_port.specs.Stages.{Stage, stage_by, Standing, started_at, Woken}
 use Rattle.psci_port.specs.Port.{Row, blank, first_row, held_by, row_by, started}
-use Rattle.psci_port.specs.Stages.{stage_by}
 
 pub record IsRow (s : ℕ) (last_one : Option Start) (r : Row) : Type 0 where
   -- it stood in a start that it used, which was opened for it, and counted
@@ -40,13 +38,8 @@ pub record IsRow (s : ℕ) (last_one : Option Start) (r : Row) : Type 0 where
 -- Which start a core enters by -------------------------------------------------------------------
 
 abbrev pub entering_by : Stage → Option Start
-entering_by Standing = None
-entering_by AtDoor = None
 entering_by (Entering s) = Some s
-entering_by Normal = None
-entering_by Leaving = None
-entering_by Armed = None
-entering_by Woken = None
+entering_by y = None
 
 pub enters_not : (y : Stage) (t : Start) → entering_by y ≡ None → y ≡ Entering t → ⊥
 enters_not y t none e = none-some t (sym none ∙ ap entering_by e)
@@ -79,19 +72,13 @@ pub once_started : (P : Stage → Type 0) → P AtDoor → P Woken → (cause : 
 once_started P door woken cause y = by cause
   where
     at : (z : Stage) → P (started_at z)
-    at Standing = door
-    at AtDoor = door
-    at (Entering s) = door
-    at Normal = door
-    at Leaving = door
     at Armed = woken
     at Woken = woken
+    at y = door
 
     by : (k : Cause) → P (stage_by k y)
-    by causes.Boot = at y
-    by causes.On = at y
-    by causes.Wake = at y
     by causes.Reset = door
+    by x = at y
 
 -- a core is started that stands in its last start, or that is held
 started_is : (s : ℕ) (l m : Option Start) (r : Row) (cause : Cause)
@@ -120,17 +107,12 @@ started_is s l m r cause stood is = record {
 
 -- the core that an effect starts in its stop
 abbrev pub found_by : ℕ → Cause → Option ℕ
-found_by c causes.Boot = Some c
-found_by c causes.On = Some c
-found_by c causes.Wake = Some c
 found_by c causes.Reset = None
+found_by c x = Some c
 
 abbrev pub found : Effect → Option ℕ
-found Nothing = None
 found (Starts c cause) = found_by c cause
-found (Deepens c ps) = None
-found Ends = None
-found Begins = None
+found f = None
 
 abbrev pub AreRows : Values → (ℕ → Row) → Type 0
 AreRows v row = (c : ℕ) → IsRow (v.starts c) (last_start v c) (row c)
@@ -139,10 +121,8 @@ module _ (b : BoardValue) (v : Values) (row : ℕ → Row) (are : AreRows v row)
   stood_for : (k : ℕ) (cause : Cause)
       → ((c : ℕ) → found_by k cause ≡ Some c → (row c).stopped ≡ v.starts c)
       → held_by cause (row k).held ≡ false → (row k).stopped ≡ v.starts k
-  stood_for k causes.Boot stood free = stood k refl
-  stood_for k causes.On stood free = stood k refl
-  stood_for k causes.Wake stood free = stood k refl
   stood_for k causes.Reset stood free = absurd (false≢true (sym free))
+  stood_for k x stood free = stood k refl
 
   start_is : (k c : ℕ) (cause : Cause) (t : Bool) → (c == k) ≡ t
       → (held_by cause (row k).held ≡ false → (row k).stopped ≡ v.starts k)

@@ -1,6 +1,7 @@
 -- Worked examples: acts that the rules of a port refuse, and some that they allow; which acts are
 -- due, of the boot core and of another one, in life 1 and in life 2; and which never are.
 use Rattle.std.proofs.Common.{◌≡◌, ◌∷◌, ◌++◌, [], arith, List, None, Option, refl, Some, true, ℕ}
+use Rattle.std.specs.Prelude.{is_some}
 use Rattle.std.proofs.lemmas.Bool.{false≢true}
 use Rattle.std.proofs.lemmas.Option.{none-some}
 use Rattle.psci_ctl_spec.specs.psci_messages.declared.kind.Kind.TheVariants as kinds
@@ -8,17 +9,16 @@ use Rattle.psci_ctl_spec.specs.psci_messages.declared.start.Start.{Start}
 use Rattle.psci_world_spec.specs.declared.said.Record.{Record}
 use Rattle.psci_world_spec.specs.declared.said.Said.TheVariants.{Absent}
 use Rattle.psci_world_spec.proofs.Scripts.{board, limited}
-use Rattle.psci_port.specs.Stages.{Stage, Standing, AtDoor, Entering, Normal, Leaving, Armed, Woken}
+use Rattle.psci_port.specs.Stages.{Stage, Entering, Armed}
 use Rattle.psci_port.specs.Port.{Act, Locks, Unlocks, Enters, Takes, Finishes, TakesUp, Stands}
-use Rattle.psci_port.specs.Port.{Arms}
-use Rattle.psci_port.specs.Port.{Sleeps, Delivers, Wakes, Resets, Rouses, Rises, Turns, Writes}
-use Rattle.psci_port.specs.Port.{Opens}
-use Rattle.psci_port.specs.Port.{Cuts, Port, Restarts, Reboots, blank, cold, with_row}
+use Rattle.psci_port.specs.Port.{Arms, Sleeps, Delivers, Wakes, Resets, Rouses, Rises, Turns}
+use Rattle.psci_port.specs.Port.{Writes, Opens, Cuts, Port, Restarts, Reboots, blank, cold}
+use Rattle.psci_port.specs.Port.{with_row}
 use Rattle.psci_port.specs.Resting.{Goes, IsDue, is_entering}
 use Rattle.psci_port.specs.Rules.{AreTrue, IsPortRun, IsTrue, May}
 use Rattle.psci_port.proofs.CellRows.{both_come, last_off, life_1, off_by, started_meanwhile}
 use Rattle.psci_port.proofs.Playing.{after, asks, comes, delivers, door, down_3, of_3, off_3}
-use Rattle.psci_port.proofs.Playing.{is_some, off_called, on_3, playing}
+use Rattle.psci_port.proofs.Playing.{off_called, on_3, playing}
 
 -- What is refused --------------------------------------------------------------------------------
 
@@ -153,13 +153,8 @@ begun None e = absurd (false≢true e)
 begun (Some r) e = (r, refl)
 
 entering : (y : Stage) → is_entering y ≡ true → (s : Start) × (y ≡ Entering s)
-entering Standing e = absurd (false≢true e)
-entering AtDoor e = absurd (false≢true e)
 entering (Entering s) e = (s, refl)
-entering Normal e = absurd (false≢true e)
-entering Leaving e = absurd (false≢true e)
-entering Armed e = absurd (false≢true e)
-entering Woken e = absurd (false≢true e)
+entering y e = absurd (false≢true e)
 
 core_3_is_due : DueOf (both_come 0) 3
 unfolding playing

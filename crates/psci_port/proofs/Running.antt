@@ -1,38 +1,40 @@
 -- Each run keeps what holds of the cores and of the lock.
-use Rattle.std.proofs.Common.{◌==◌, ◌∷◌, ◌≡◌, [], ap, Bool, cond, false, List, None, Some}
-use Rattle.std.proofs.Common.{refl, subst, sym, true, ℕ}
-use Rattle.std.specs.Prelude.{not}
+use Rattle.std.proofs.lemmas.Bool.Decides.{nat_tests}
+use Rattle.std.specs.Prelude.{◌&&◌, ◌⊎◌, not}
+use Rattle.std.proofs.Common.{◌<◌, ◌==◌, ◌∙◌, ◌∷◌, ◌≡◌, [], ap, arith, Bool, false, inl, inr, List}
+use Rattle.std.proofs.Common.{None, Option, refl, Some, subst, sym, true, ℕ}
+use Rattle.std.proofs.lemmas.Bool.{eq-eqb, eqb-true, false≢true, ne_eqb}
 use Rattle.std.proofs.lemmas.Option.{none-some}
-use Rattle.std.proofs.lemmas.Bool.{eq-eqb, false≢true}
-use Rattle.psci_board.specs.Board.{BoardValue}
-use Rattle.psci_ctl_spec.specs.psci_messages.declared.start.Cause.TheVariants as causes
+use Rattle.psci_board.specs.Board.{BoardValue, cores}
+use Rattle.psci_ctl_spec.specs.Replies.{Begins, change, Effect, effect_of, kick_effect, last_start}
+use Rattle.psci_ctl_spec.specs.Replies.{reply, wake_of}
+use Rattle.psci_ctl_spec.specs.History.{AreValues}
 use Rattle.psci_ctl_spec.specs.declared.call.CtlCall.TheVariants as asked
 use Rattle.psci_ctl_spec.specs.declared.kick.Kick.{Kick as Kicked}
-use Rattle.psci_ctl_spec.specs.declared.kick.Kick.TheVariants as kicks
-use Rattle.psci_ctl_spec.specs.Changes.{change}
-use Rattle.psci_ctl_spec.specs.Effects.{Effect, Nothing, Starts, Deepens, Ends, Begins, effect_of}
-use Rattle.psci_ctl_spec.specs.Effects.{kick_effect}
-use Rattle.psci_ctl_spec.specs.Replies.{last_start, reply, wake_of}
-use Rattle.psci_world_spec.specs.declared.event.Event.TheVariants.{Call, Enter, Wake, Reset}
-use Rattle.psci_world_spec.specs.declared.event.Event.TheVariants.{Deliver, Take}
+use Rattle.psci_ctl_spec.specs.psci_messages.declared.start.Cause.TheVariants as causes
+use Rattle.psci_ctl_spec.specs.psci_messages.declared.start.Start.{Start}
+use Rattle.psci_world_spec.specs.declared.event.Event.TheVariants.{Call, Deliver, Enter, Reset}
+use Rattle.psci_world_spec.specs.declared.event.Event.TheVariants.{Take, Wake}
 use Rattle.psci_world_spec.specs.declared.said.Record.{Record}
-use Rattle.psci_port.specs.Stages.{Standing, AtDoor, Armed, has_stopped, is_inside, may_hold}
-use Rattle.psci_port.specs.Stages.{roused_at, started_at}
-use Rattle.psci_port.specs.Port.{Port, Row, Act, Locks, Unlocks, Calls, Enters, Takes, Finishes}
-use Rattle.psci_port.specs.Port.{TakesUp, Stands, Arms, Sleeps, Delivers, Wakes, Resets, Writes}
-use Rattle.psci_port.specs.Port.{Rouses, Rises, Turns, Opens, Cuts, Restarts, Reboots, cold}
-use Rattle.psci_port.specs.Port.{finished, going_on, gone_to, lock_by, rising, row_by, stage_at}
-use Rattle.psci_port.specs.Port.{started, state, step, stopping, taking_up, woken, words}
-use Rattle.psci_port.specs.Rules.{IsPortRun, May}
+use Rattle.psci_world_spec.specs.declared.said.Said.TheVariants.{Absent}
 use Rattle.psci_port.specs.Kept.{EachTakesItsLast, IsLocked, TakesItsLast, WordsTell}
-use Rattle.psci_port.proofs.Rows.{first_is}
-use Rattle.psci_port.proofs.Own.{open_last, open_new, opens_is, sleeps_is, rouses_is}
-use Rattle.psci_port.proofs.Own.{stops_is, takes_up, turns_is, writes_is}
+use Rattle.psci_port.specs.Port.{Act, Arms, Calls, cold, Cuts, Delivers, Enters, finished, Finishes}
+use Rattle.psci_port.specs.Port.{going_on, gone_to, lock_by, Locks, Opens, Port, Reboots, Resets}
+use Rattle.psci_port.specs.Port.{Restarts, Rises, rising, Rouses, Row, row_by, Sleeps, stage_at}
+use Rattle.psci_port.specs.Port.{Stands, state, step, stopping, Takes, TakesUp, taking_up, Turns}
+use Rattle.psci_port.specs.Port.{Unlocks, Wakes, woken, words, Writes}
+use Rattle.psci_port.specs.Resting.{is_entering, is_shown, IsAtRest, IsDue, IsQuiet}
+use Rattle.psci_port.specs.Rules.{IsPortRun, May}
+use Rattle.psci_port.specs.Stages.{Armed, AtDoor, Entering, has_stopped, is_inside, is_started}
+use Rattle.psci_port.specs.Stages.{Leaving, may_hold, Normal, roused_at, Stage, Standing, Woken}
+use Rattle.psci_port.proofs.Locks.{apart_kept, arms_kept, begins_kept, commanded_kept}
+use Rattle.psci_port.proofs.Locks.{finished_kept, first_held, IsHeld, IsKept, lock_held}
+use Rattle.psci_port.proofs.Locks.{looks_apart, one_inside, stays_kept, unlock_held}
+use Rattle.psci_port.proofs.Records.{opens_is, rouses_is, sleeps_is, stops_is, takes_up, turns_is}
+use Rattle.psci_port.proofs.Records.{writes_is}
+use Rattle.psci_port.proofs.Rows.{first_is, IsRow}
 use Rattle.psci_port.proofs.Started.{delivered_starts, delivered_touches, reset_starts_it}
 use Rattle.psci_port.proofs.Started.{woken_starts}
-use Rattle.psci_port.proofs.Locks.{IsHeld, first_held, lock_held, one_inside, unlock_held}
-use Rattle.psci_port.proofs.Keeping.{IsKept, apart_kept, arms_kept, begins_kept, commanded_kept}
-use Rattle.psci_port.proofs.Keeping.{finished_kept, looks_apart, stays_kept}
 
 first_kept : (b : BoardValue) (before : List (List Record)) → IsKept (cold b before)
 first_kept b before = record { rows = first_is (Some 1); held = first_held }
@@ -48,21 +50,12 @@ waits_not false is = absurd (false≢true is)
 -- An armed core wakes itself ---------------------------------------------------------------------
 
 still_free : (f : Effect) → lock_by f None ≡ None
-still_free Nothing = refl
-still_free (Starts k cause) = refl
-still_free (Deepens k ps) = refl
-still_free Ends = refl
-still_free Begins = refl
+still_free f = grind (arith, nat_tests)
 
 -- it may have the lock after that
 woken_holds : (c : ℕ) (kick : Kicked) (r : Row) → r.stage ≡ Armed
     → may_hold (row_by c (kick_effect c causes.Wake kick) r).stage ≡ true
-woken_holds c (kicks.Started s) r at = by (c == c)
-  where
-    by : (t : Bool) → may_hold (cond t (started causes.Wake r) r).stage ≡ true
-    by true = ap (λ y. may_hold (started_at y)) at
-    by false = ap may_hold at
-woken_holds c kicks.Ignored r at = ap may_hold at
+woken_holds c kick r at = grind (arith, nat_tests)
 
 module _ (b : BoardValue) (p : Port) (is : IsKept p) (c : ℕ) (at : stage_at p c ≡ Armed)
     (has : p.lock ≡ Some c) (none : (p.row c).begun ≡ None) where
@@ -74,10 +67,7 @@ module _ (b : BoardValue) (p : Port) (is : IsKept p) (c : ℕ) (at : stage_at p 
   after_it = woken b loose c
 
   loose_kept : IsKept loose
-  loose_kept = record {
-    rows = is.rows;
-    held = unlock_held p.lock p.row p.whole is.held c has none;
-  }
+  loose_kept = grind (arith, nat_tests)
 
   stands_there : (words p c == p.values.starts c) ≡ true
   stands_there = eq-eqb _ _ ((is.rows c).still (ap has_stopped at))
@@ -175,52 +165,117 @@ run_kept b (act ∷ acts) run =
 -- What follows -----------------------------------------------------------------------------------
 
 pub run_locked : (b : BoardValue) (acts : List Act) → IsPortRun b acts → IsLocked (state b acts)
-run_locked b acts run =
-    let p : Port = state b acts in
-    let held : IsHeld p.lock p.row p.whole = (run_kept b acts run).held in
-    record {
-      holder = held.holder;
-      alone = one_inside p.lock p.row p.whole held;
-      free = held.free;
-      whole = held.whole;
-    }
+run_locked b acts run = grind (arith, nat_tests, run_kept, one_inside)
 
 pub run_words : (b : BoardValue) (acts : List Act) → IsPortRun b acts → WordsTell (state b acts)
-run_words b acts run =
-    let rows = (run_kept b acts run).rows in
-    record {
-      stands = λ c e. (rows c).stands e;
-      stood = λ c e. (rows c).still e;
-      enters = λ c s e. (rows c).taken s e;
-    }
+run_words b acts run = grind (arith, nat_tests, run_kept)
 
 takes_last : (b : BoardValue) (p : Port) (act : Act) → IsKept p → May b p act
     → TakesItsLast p act
-takes_last b p (Locks c) is may = tt
-takes_last b p (Unlocks c) is may = tt
-takes_last b p (Calls c regs said) is may = tt
-takes_last b p (Enters c said) is may = tt
-takes_last b p (Takes c k said) is may = tt
-takes_last b p (Finishes c) is may = tt
-takes_last b p (TakesUp c) is may =
-    let last = open_last _ _ (p.row c) (is.rows c) may.1 may.2 in
-    ((is.rows c).shows last, last, open_new _ _ (p.row c) (is.rows c) may.1 may.2)
-takes_last b p (Stands c) is may = tt
-takes_last b p (Arms c) is may = tt
-takes_last b p (Sleeps c) is may = tt
-takes_last b p (Delivers k m) is may = tt
-takes_last b p (Wakes c) is may = tt
-takes_last b p (Resets c) is may = tt
-takes_last b p (Rouses c) is may = tt
-takes_last b p (Rises c) is may = tt
-takes_last b p (Turns c) is may = tt
-takes_last b p (Writes c) is may = tt
-takes_last b p (Opens c) is may = tt
-takes_last b p (Cuts level place) is may = tt
-takes_last b p Restarts is may = tt
-takes_last b p Reboots is may = tt
+takes_last b p act is may = grind (arith, nat_tests)
 
 pub run_takes : (b : BoardValue) (acts : List Act) → IsPortRun b acts → EachTakesItsLast b acts
 run_takes b [] run = tt
 run_takes b (act ∷ acts) run =
     (takes_last b (state b acts) act (run_kept b acts run.1) run.0, run_takes b acts run.1)
+
+-- Whether a start stands at a door is decided by its fields ---------------------------------------
+
+both : (a b : Bool) → (a && b) ≡ true → (a ≡ true) × (b ≡ true)
+both true b e = (refl, e)
+both false b e = absurd (false≢true e)
+
+pub shown_is : (d l : Option Start) → is_shown d l ≡ true → d ≡ l
+shown_is d l e = grind (arith, nat_tests)
+
+pub shown_itself : (l : Option Start) → is_shown l l ≡ true
+shown_itself l = grind (arith, nat_tests)
+
+-- Where no act is due, a port is at rest ----------------------------------------------------------
+
+waits_no_more : (touched stands : Bool) → stands ≡ true → (touched && not stands) ≡ true → ⊥
+waits_no_more touched stands e wait = grind (arith, nat_tests)
+
+not_true : (stands : Bool) → stands ≡ true → not stands ≡ true → ⊥
+not_true true e wait = false≢true wait
+not_true false e wait = false≢true e
+
+module _ (b : BoardValue) (p : Port) (kept : IsKept p) (values : AreValues b p.values)
+    (on_board : (c : ℕ) → p.lock ≡ Some c → c < cores b)
+    (still : (act : Act) → IsDue b p act → ⊥) where
+  -- The lock -------------------------------------------------------------------------------------
+
+  gives_back : (c : ℕ) → p.lock ≡ Some c → (p.row c).begun ≡ None → (y : Stage)
+      → stage_at p c ≡ y → ⊥
+  gives_back c held none Standing at =
+      false≢true (sym (ap may_hold at) ∙ kept.held.holder c held)
+  gives_back c held none AtDoor at =
+      false≢true (sym (ap may_hold at) ∙ kept.held.holder c held)
+  gives_back c held none (Entering s) at =
+      still (Enters c Absent) ((on_board c held, (held, none), (s, at)), tt)
+  gives_back c held none y at =
+      still (Unlocks c) ((held, none), (on_board c held, ap is_entering at))
+
+  none_holds : (c : ℕ) → p.lock ≡ Some c → ⊥
+  none_holds c held = by (p.row c).begun refl
+    where
+      by : (o : Option Record) → (p.row c).begun ≡ o → ⊥
+      by None none = gives_back c held none (stage_at p c) refl
+      by (Some r) e = still (Finishes c) ((r, e), on_board c held)
+
+  is_free : p.lock ≡ None
+  is_free = grind (arith, nat_tests, none_holds)
+
+  -- A core ---------------------------------------------------------------------------------------
+
+  module _ (c : ℕ) (on : c < cores b) where
+    is : IsRow (p.values.starts c) (last_start p.values c) (p.row c)
+    is = kept.rows c
+
+    -- at its door it has a start that it did not use
+    ahead : stage_at p c ≡ AtDoor → (p.row c).used < p.values.starts c
+    ahead at = grind (arith, nat_tests)
+
+    -- that is taken up, once it is written and its door is open
+    not_at_door : stage_at p c ≡ AtDoor → ⊥
+    not_at_door at = by ((p.row c).opened == p.values.starts c) refl
+      where
+        new : (p.row c).opened ≡ p.values.starts c → (p.row c).opened ≡ (p.row c).used → ⊥
+        new opens same = let a = ahead at in omega (arith, a, opens, same)
+
+        free : (t : Bool) → (p.row c).held ≡ t → (p.row c).opened ≡ p.values.starts c → ⊥
+        free true e opens = let a = is.closed e in omega (arith, a, opens)
+        free false e opens =
+            still (TakesUp c) ((ap is_started at, e, ne_eqb _ _ (new opens), none_holds c), on)
+
+        shut : (t : Bool) → is_shown (p.row c).door (last_start p.values c) ≡ t
+            → ((p.row c).opened == p.values.starts c) ≡ false → ⊥
+        shut true e differs =
+            still (Opens c) (shown_is (p.row c).door (last_start p.values c) e, (on, differs))
+        shut false e differs = still (Writes c) (differs, (on, e))
+
+        by : (t : Bool) → ((p.row c).opened == p.values.starts c) ≡ t → ⊥
+        by true e = free (p.row c).held refl (eqb-true _ _ e)
+        by false e = shut (is_shown (p.row c).door (last_start p.values c)) refl e
+
+    quiet : stage_at p c ≡ Standing → IsQuiet p c
+    quiet at = grind (arith, nat_tests)
+
+    rests : (y : Stage) → stage_at p c ≡ y → (stage_at p c ≡ Normal) ⊎ IsQuiet p c
+    rests Standing at = inr (quiet at)
+    rests AtDoor at = absurd (not_at_door at)
+    rests (Entering s) at =
+        absurd (still (Locks c) ((on, is_free, ap may_hold at), ap is_entering at))
+    rests Normal at = inl at
+    rests Leaving at = absurd (still (Stands c) ((at, none_holds c), on))
+    rests Armed at = absurd (still (Sleeps c) ((at, none_holds c), on))
+    rests Woken at = absurd (still (Turns c) ((at, none_holds c), on))
+
+    -- nothing waits for a quiet core
+    in_world : (stage_at p c ≡ Normal) ⊎ IsQuiet p c
+        → ((words p c == p.values.starts c) ≡ true → ⊥) → stage_at p c ≡ Normal
+    in_world (inl at) never = at
+    in_world (inr q) never = absurd (never (eq-eqb _ _ q.word))
+
+  pub at_rest : IsAtRest b p
+  at_rest = grind (arith, nat_tests, is_free, rests, in_world, waits_no_more, not_true)

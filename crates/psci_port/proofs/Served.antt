@@ -1,7 +1,7 @@
 -- Where a port is at rest and no message is to be served, firmware and power controller agree.
-use Rattle.std.proofs.Common.{◌<◌, ◌∙◌, ◌∷◌, ◌≡◌, ◌≤◌, [], ap, arith, Bool, cond}
-use Rattle.std.proofs.Common.{false, inl, inr, length, List, None, Option, refl, Some, subst, suc}
-use Rattle.std.proofs.Common.{sym, true, zero, ℕ}
+use Rattle.std.proofs.Common.{◌<◌, ◌∙◌, ◌∷◌, ◌≡◌, ◌≤◌, [], ap, arith, Bool, cond, false, inl}
+use Rattle.std.proofs.Common.{inr, length, List, None, Option, refl, Some, subst, suc, sym, true}
+use Rattle.std.proofs.Common.{zero, ℕ}
 use Rattle.std.specs.Prelude.{slice_get}
 use Rattle.std.proofs.lemmas.Bool.{cases_eq, eq-eqb, false≢true}
 use Rattle.std.proofs.lemmas.Bool.Decides.{nat_tests}
@@ -14,39 +14,32 @@ use Rattle.psci_ctl_spec.specs.psci_messages.declared.part.Part.{Part}
 use Rattle.psci_ctl_spec.specs.declared.call.CtlCall.TheVariants as asked
 use Rattle.psci_ctl_spec.specs.declared.delivery.Delivery.TheVariants as deliveries
 use Rattle.psci_ctl_spec.specs.declared.reply.CtlReply.TheVariants as replies
-use Rattle.psci_ctl_spec.specs.Changes.{after, change}
-use Rattle.psci_ctl_spec.specs.Effects.{effect_of, message_effect}
-use Rattle.psci_ctl_spec.specs.Legal.{IsSendable}
-use Rattle.psci_ctl_spec.specs.Replies.{ack_by, delivery_of, reply}
+use Rattle.psci_ctl_spec.specs.Replies.{ack_by, after, change, delivery_of, effect_of}
+use Rattle.psci_ctl_spec.specs.Replies.{message_effect, reply}
+use Rattle.psci_ctl_spec.specs.History.{IsSendable}
 use Rattle.psci_ctl_spec.specs.Values as controlled
 use Rattle.psci_world_spec.specs.psci_fw_spec.Phases as phases
 use Rattle.psci_world_spec.specs.psci_fw_spec.Values.{Values}
 use Rattle.psci_world_spec.specs.declared.place.Place.TheVariants.{Started}
 use Rattle.psci_world_spec.specs.declared.said.Record.{Record}
-use Rattle.psci_world_spec.specs.Histories.{acks, controller_values, firmware_values, sent}
-use Rattle.psci_world_spec.specs.Lists.{indexed}
-use Rattle.psci_world_spec.specs.Places.{place}
-use Rattle.psci_headline.specs.Drained.{AreAtRest}
-use Rattle.psci_headline.specs.Settling.{is_halting, serving}
-use Rattle.psci_headline.specs.Waiting.{WaitingIn}
+use Rattle.psci_world_spec.specs.Legal.{controller_values, firmware_values, indexed, place, sent}
+use Rattle.psci_headline.specs.Settling.{AreAtRest, is_halting, serving}
 use Rattle.psci_headline.specs.psci_fw_laws.Messages.{IsSound}
-use Rattle.psci_headline.specs.psci_fw_spec.Lives.{in_life}
-use Rattle.psci_headline.proofs.Agreeing.{found_own}
-use Rattle.psci_headline.proofs.Counting.{none_added}
+use Rattle.psci_headline.specs.psci_fw_spec.Changes.{in_life}
+use Rattle.psci_headline.proofs.Controls.{found_own}
+use Rattle.psci_headline.proofs.Serving.{empties, finds, HasNumber, IsEmptying, none_added}
+use Rattle.psci_headline.proofs.Serving.{numbered_new, numbered_old}
 use Rattle.psci_headline.proofs.Downs.{IsDownAnswered, down_answered, same_down}
-use Rattle.psci_headline.proofs.Finding.{finds, HasNumber, numbered_new, numbered_old}
-use Rattle.psci_headline.proofs.Going.{IsGoing, IsOut, out_now}
+use Rattle.psci_headline.proofs.Starts.{IsGoing, IsOut, out_now}
 use Rattle.psci_headline.proofs.Rounds.{DeepAt, deep_or_out, out_at}
-use Rattle.psci_headline.proofs.Serving.{empties, IsEmptying}
 use Rattle.psci_headline.proofs.Settled as settling
-use Rattle.psci_headline.proofs.Slots.{core_slot}
-use Rattle.psci_headline.proofs.Standing.{AreSettled, IsPast, settled_life, SettleLaws}
-use Rattle.psci_headline.proofs.Whole.{going_life, LifeGoesOn}
-use Rattle.psci_port.specs.Stages.{place_of}
+use Rattle.psci_headline.proofs.Checking.{core_slot}
+use Rattle.psci_headline.proofs.Nexts.{AreSettled, IsPast, settled_life, SettleLaws}
+use Rattle.psci_headline.proofs.Confirmed.{going_life, LifeGoesOn}
 use Rattle.psci_port.specs.Port.{Port}
 use Rattle.psci_port.specs.Resting.{IsAtRest}
 use Rattle.psci_port.specs.Served.{ends, IsSpent, IsToServe}
-use Rattle.psci_port.proofs.Heard.{heard}
+use Rattle.psci_port.proofs.Undoing.{heard}
 use Rattle.psci_port.proofs.Mirrors.{IsMirror}
 
 -- what stands in a list has a number
@@ -103,10 +96,7 @@ module _ (b : BoardValue) (p : Port) (laws : SettleLaws b) (mirror : IsMirror b 
   on = going_life b p.past awake
 
   entered : (c : ℕ) → c < cores b → place b p.past c ≡ Started → ⊥
-  entered c at e = elim (rest.each c at) [
-    | inl normal ↦ let here = sym e ∙ mirror.places c ∙ ap place_of normal in absurd (cc)
-    | inr quiet ↦ let here = sym e ∙ mirror.places c ∙ ap place_of quiet.standing in absurd (cc)
-  ]
+  entered c at e = grind (arith, nat_tests)
 
   settled : AreSettled b p.past on.life
   settled = settled_life b p.past on.life laws.some is on.present entered
@@ -135,12 +125,7 @@ module _ (b : BoardValue) (p : Port) (laws : SettleLaws b) (mirror : IsMirror b 
         ∙ ap OfCore core) ∙ out
 
     spent : (IsSpent b w m → ⊥) → ⊥
-    spent never = none index.number m (record {
-      at = index.at;
-      out = slot;
-      may = heard b p mirror is rest can index.number m index.at slot;
-      brings = λ s. never (subst (λ u. IsSpent b u m) (sym mirror.values) s);
-    })
+    spent never = grind (arith, nat_tests, index, slot, heard, is)
 
     -- a delivery of it leaves some of it
     leaves : is_done (ack_by b w m m.kind) m ≡ false
@@ -156,39 +141,17 @@ module _ (b : BoardValue) (p : Port) (laws : SettleLaws b) (mirror : IsMirror b 
     keeps : (level : ℕ) → level ≤ height b
         → (change b (message_effect b m (ack_by b w m m.kind) m.kind) w).depth level
         (up b level m.core.number) ≡ w.depth level (up b level m.core.number)
-    keeps level within = elim (cases_eq
-        ((change b (message_effect b m (ack_by b w m m.kind) m.kind) w).depth level
-        (up b level m.core.number)) (w.depth level (up b level m.core.number))) [
-          | inl e ↦ e
-          | inr ne ↦ absurd (spent (λ s.
-              ne (ap (λ (u : controlled.Values). u.depth level (up b level m.core.number))
-              (sym (changed b w m present)) ∙ s.depths level within)))
-        ]
+    keeps level within = grind (arith, nat_tests, cases_eq, spent, changed, present)
 
     no_start : m.kind ≡ Start → ⊥
     no_start kind = false≢true (sym leaves ∙ start_ends b w m kind)
 
   -- so no core is pending
   none_pending : (c : ℕ) → c < cores b → v.phase c ≡ phases.Pending → ⊥
-  none_pending c at e =
-      let waiting : WaitingIn b on.life w v (sent p.past) (acks p.past) =
-      subst (λ u. WaitingIn b on.life w u (sent p.past) (acks p.past)) same
-      (is.waits on.life on.present) in
-      let awaits = waiting.asked (ap (λ (u : Values). u.halting) (sym same) ∙ on.awake) c at e
-      (sym (settled.known c at)) in
-      no_start c awaits.message awaits.at awaits.kind
+  none_pending c at e = grind (arith, nat_tests, on, same, is, settled, no_start)
 
   going : IsGoing b p.past on.life p.past
-  going = record {
-    legal = mirror.legal.0;
-    added = none_added p.past;
-    present = on.present;
-    own = settled.own;
-    awake = ap (λ (u : Values). u.halting) (sym same) ∙ on.awake;
-    known = settled.known;
-    rests = none_pending;
-    entered = entered;
-  }
+  going = grind (arith, nat_tests, none_added, present, on, settled, same, none_pending, entered)
 
   -- What is so after an outstanding Down was served, where live parts below a level have their
   -- depth.
@@ -214,10 +177,7 @@ module _ (b : BoardValue) (p : Port) (laws : SettleLaws b) (mirror : IsMirror b 
     unmoved : (level : ℕ) → level ≤ height b
         → (controller_values b (serving b p.past (Some number.number))).depth level
         (up b level m.core.number) ≡ w.depth level (up b level m.core.number)
-    unmoved level within =
-        ap (λ (u : controlled.Values). u.depth level (up b level m.core.number))
-        emptied.answered.control
-        ∙ keeps c m out level within
+    unmoved level within = grind (arith, nat_tests, emptied, keeps)
 
     -- and the Down is outstanding
     stays : (firmware_values b (serving b p.past (Some number.number))).outstanding (OfCore c)
@@ -227,10 +187,7 @@ module _ (b : BoardValue) (p : Port) (laws : SettleLaws b) (mirror : IsMirror b 
   -- a part of a message is of a level of the board
   within : (k level : ℕ) (m : MessageValue) (part : Part) → slice_get (sent p.past) k ≡ Some m
       → slice_get m.parts level ≡ Some part → level ≤ height b
-  within k level m part at get =
-      let few = (is.given.holds.messages k m at).sound.few in
-      let low = slice_get_within m.parts level part get in
-      omega (arith, few, low)
+  within k level m part at get = grind (arith, nat_tests, slice_get_within)
 
   -- Level by level each live part has its depth
   deep_below : (r c : ℕ) → DeepAt b on.life r c p.past

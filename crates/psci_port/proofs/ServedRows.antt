@@ -1,15 +1,14 @@
 -- Worked examples, clause by clause: which messages are to be served, how much of one is still to
 -- be carried out, what a delivery leaves, and what is outstanding.
-use Rattle.std.proofs.Common.{◌<◌, ◌≤◌, ◌∷◌, ◌++◌, ◌≡◌, [], ap, arith, Bool, false, List, map, None}
-use Rattle.std.proofs.Common.{Option}
-use Rattle.std.proofs.Common.{◌∙◌, refl, Some, subst, suc, sym, true, zero, ℕ}
+use Rattle.std.proofs.Common.{◌++◌, ◌<◌, ◌∙◌, ◌∷◌, ◌≡◌, ◌≤◌, [], ap, arith, Bool, false, List}
+use Rattle.std.proofs.Common.{map, None, Option, refl, Some, subst, suc, sym, true, zero, ℕ}
 use Rattle.std.specs.Prelude.{◌==◌, ◌&&◌, ◌||◌, if◌then◌else◌, not}
 use Rattle.std.proofs.lemmas.Bool.{eqb-false, false≢true}
 use Rattle.std.proofs.lemmas.Option.{none-some}
 use Rattle.psci_board.proofs.Tables.{◌⇒◌, Gives}
 use Rattle.psci_board.specs.Board.{BoardValue, height, up}
-use Rattle.psci_ctl_spec.specs.Changes as changing
-use Rattle.psci_ctl_spec.specs.Legal.{IsSendable}
+use Rattle.psci_ctl_spec.specs.Replies as changing
+use Rattle.psci_ctl_spec.specs.History.{IsSendable}
 use Rattle.psci_ctl_spec.specs.Replies.{ack_of, reply}
 use Rattle.psci_ctl_spec.specs.Values.{Values}
 use Rattle.psci_ctl_spec.specs.psci_messages.Message.{MessageValue}
@@ -21,14 +20,13 @@ use Rattle.psci_ctl_spec.specs.declared.delivery.Delivery.TheVariants as deliver
 use Rattle.psci_ctl_spec.specs.declared.kick.Kick.TheVariants as kicks
 use Rattle.psci_ctl_spec.specs.declared.reply.CtlReply.TheVariants as replies
 use Rattle.psci_world_spec.proofs.Scripts.{board, part, tall}
-use Rattle.psci_world_spec.specs.Lists.{indexed}
+use Rattle.psci_world_spec.specs.Legal.{indexed}
 use Rattle.psci_port.specs.Port.{Finishes, Locks, Unlocks}
 use Rattle.psci_port.specs.Served.{AllServed, AreHeard, IsSpent, IsToServe, ends}
 use Rattle.psci_port.specs.Undone.{IsListed, LeavesLess, is_undone, left_of, served, undone}
-use Rattle.psci_port.proofs.Cases.{Each, at_depths, down_of, down_to, of_system, on, sendable}
-use Rattle.psci_port.proofs.Cases.{standby, whole, whole_tall}
-use Rattle.psci_port.proofs.Playing.{after, delivers, down_3, of_3, off_3, off_called, playing}
-use Rattle.psci_port.proofs.Playing.{takes}
+use Rattle.psci_port.proofs.Playing.{after, at_depths, delivers, down_3, down_of, down_to, Each}
+use Rattle.psci_port.proofs.Playing.{of_3, of_system, off_3, off_called, on, playing, sendable}
+use Rattle.psci_port.proofs.Playing.{standby, takes, whole, whole_tall}
 
 -- What an acknowledgement leaves -----------------------------------------------------------------
 
@@ -66,10 +64,8 @@ waits_for_the_other_cluster = record { depths = by_level; left = refl }
         (at_depths 1 (but_for 1)) (asked.Deliver (down_of 0 1 whole)))
         (at_depths 1 (but_for 1))).depth level (up board level 0)
         ≡ but_for 1 level (up board level 0)
-    by_level zero low = refl
-    by_level (suc zero) low = refl
-    by_level (suc (suc zero)) low = refl
     by_level (suc (suc (suc level))) low = absurd (omega (arith, low))
+    by_level x low = refl
 
 -- a core goes down, its cluster, and its group; all is down; and a message is stale
 brings_about : (IsSpent board (at_depths 1 on) (down_of 0 1 whole) → ⊥)

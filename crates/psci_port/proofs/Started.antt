@@ -1,31 +1,31 @@
 -- Who is started, and who is taken down, by what the power controller is asked: a core that stands
 -- by its word, unless it is reset.
-use Rattle.std.proofs.Common.{◌==◌, ◌∷◌, ◌≡◌, [], ap, arith, Bool, cond, false, List}
-use Rattle.std.proofs.Common.{Option, None, Some, refl, subst, suc, zero, sym, true, ℕ}
-use Rattle.std.specs.Prelude.{nat_lt, not, ◌&&◌, slice_get, take}
-use Rattle.std.proofs.lemmas.Option.{none-some}
+use Rattle.std.specs.Prelude.{◌&&◌, not, slice_get, take}
+use Rattle.std.proofs.Common.{◌<◌, ◌==◌, ◌∷◌, ◌≡◌, [], ap, arith, Bool, cond, false, List, None}
+use Rattle.std.proofs.Common.{Option, refl, Some, subst, true, ℕ}
 use Rattle.std.proofs.lemmas.Bool.{eqb-true, false≢true}
 use Rattle.std.proofs.lemmas.Bool.Decides.{nat_tests}
-use Rattle.psci_board.specs.Board.{BoardValue, domain_of}
-use Rattle.psci_ctl_spec.specs.psci_messages.Message.{MessageValue}
-use Rattle.psci_ctl_spec.specs.psci_messages.declared.kind.Kind.{Kind}
-use Rattle.psci_ctl_spec.specs.psci_messages.declared.kind.Kind.TheVariants as kinds
-use Rattle.psci_ctl_spec.specs.psci_messages.declared.part.Part.{Part}
-use Rattle.psci_ctl_spec.specs.psci_messages.declared.start.Cause.{Cause}
-use Rattle.psci_ctl_spec.specs.psci_messages.declared.start.Cause.TheVariants as causes
+use Rattle.std.proofs.lemmas.Option.{none-some}
+use Rattle.psci_board.specs.Board.{BoardValue, cores}
+use Rattle.psci_ctl_spec.specs.Replies.{ack_by, ack_of, after, Begins, change, Deepens, delivery_of}
+use Rattle.psci_ctl_spec.specs.Replies.{Effect, effect_of, Ends, is_this_life, kick_effect}
+use Rattle.psci_ctl_spec.specs.Replies.{message_effect, Nothing, reply, reset_of, Starts, wake_of}
+use Rattle.psci_ctl_spec.specs.History.{AreValues, IsCall, IsFront, MayFollow}
+use Rattle.psci_ctl_spec.specs.Values.{begins_stale, start_of_life, Values}
 use Rattle.psci_ctl_spec.specs.declared.call.CtlCall.{CtlCall}
 use Rattle.psci_ctl_spec.specs.declared.call.CtlCall.TheVariants as asked
 use Rattle.psci_ctl_spec.specs.declared.delivery.Delivery.TheVariants as deliveries
 use Rattle.psci_ctl_spec.specs.declared.kick.Kick.{Kick}
 use Rattle.psci_ctl_spec.specs.declared.kick.Kick.TheVariants as kicks
 use Rattle.psci_ctl_spec.specs.declared.reply.CtlReply.TheVariants as replies
-use Rattle.psci_ctl_spec.specs.Effects.{Effect, Nothing, Starts, Deepens, Ends, Begins, effect_of}
-use Rattle.psci_ctl_spec.specs.Effects.{kick_effect, message_effect}
-use Rattle.psci_ctl_spec.specs.Follows.{IsFront, MayFollow}
-use Rattle.psci_ctl_spec.specs.Parts.{applied, begins_stale}
-use Rattle.psci_ctl_spec.specs.Replies.{ack_by, ack_of, delivery_of, is_this_life, may_follow}
-use Rattle.psci_ctl_spec.specs.Replies.{reply, reset_of, wake_of}
-use Rattle.psci_ctl_spec.specs.Values.{Values, starts_below}
+use Rattle.psci_ctl_spec.specs.psci_messages.Message.{MessageValue}
+use Rattle.psci_ctl_spec.specs.psci_messages.declared.kind.Kind.{Kind}
+use Rattle.psci_ctl_spec.specs.psci_messages.declared.kind.Kind.TheVariants as kinds
+use Rattle.psci_ctl_spec.specs.psci_messages.declared.part.Part.{Part}
+use Rattle.psci_ctl_spec.specs.psci_messages.declared.start.Cause.{Cause}
+use Rattle.psci_ctl_spec.specs.psci_messages.declared.start.Cause.TheVariants as causes
+use Rattle.psci_port.specs.Port.{Act, Port, state, step}
+use Rattle.psci_port.specs.Rules.{IsPortRun, May}
 use Rattle.psci_port.specs.Waiting.{switches, touches, waits}
 use Rattle.psci_port.proofs.Rows.{found}
 
@@ -33,26 +33,18 @@ use Rattle.psci_port.proofs.Rows.{found}
 
 -- the core that it starts
 abbrev pub starts_core : Effect → Option ℕ
-starts_core Nothing = None
 starts_core (Starts c cause) = Some c
-starts_core (Deepens c ps) = None
-starts_core Ends = None
-starts_core Begins = None
+starts_core f = None
 
 -- the core that it takes down, and by which parts
 abbrev pub down_core : Effect → ℕ
-down_core Nothing = 0
 down_core (Starts c cause) = c
 down_core (Deepens c ps) = c
-down_core Ends = 0
-down_core Begins = 0
+down_core f = 0
 
 abbrev pub down_parts : Effect → List Part
-down_parts Nothing = []
-down_parts (Starts c cause) = []
 down_parts (Deepens c ps) = ps
-down_parts Ends = []
-down_parts Begins = []
+down_parts f = []
 
 pub some_core : (c d : ℕ) → Some c ≡ Some d → c ≡ d
 some_core c d e = grind arith
@@ -63,14 +55,6 @@ kick_names : (c k : ℕ) (cause : Cause) (kick : Kick)
     → starts_core (kick_effect c cause kick) ≡ Some k → c ≡ k
 kick_names c k cause (kicks.Started s) e = some_core c k e
 kick_names c k cause kicks.Ignored e = absurd (none-some k e)
-
-wake_finds : (c k : ℕ) (kick : Kick) → found (kick_effect c causes.Wake kick) ≡ Some k → c ≡ k
-wake_finds c k (kicks.Started s) e = some_core c k e
-wake_finds c k kicks.Ignored e = absurd (none-some k e)
-
-reset_finds : (c k : ℕ) (kick : Kick) → found (kick_effect c causes.Reset kick) ≡ Some k → ⊥
-reset_finds c k (kicks.Started s) e = none-some k e
-reset_finds c k kicks.Ignored e = none-some k e
 
 kick_downs : (c : ℕ) (cause : Cause) (kick : Kick) (p : Part)
     → slice_get (down_parts (kick_effect c cause kick)) 0 ≡ Some p → ⊥
@@ -87,19 +71,7 @@ waited touched stands is wait = grind arith
 down_live : (b : BoardValue) (v : Values) (c n : ℕ) (ps : List Part) (p : Part)
     → IsFront b v c (take n ps) → slice_get (take n ps) 0 ≡ Some p
     → not (begins_stale b v c ps) ≡ true
-down_live b v c zero ps p front at = absurd (none-some p at)
-down_live b v c (suc n) [] p front at = absurd (none-some p at)
-down_live b v c (suc n) (q ∷ qs) p front at =
-    let level : 0 ≡ q.level = sym (front.level 0 q refl) in
-    let live : q.generation ≡ starts_below b v.starts (domain_of b c q.level) =
-    subst (λ l. q.generation ≡ starts_below b v.starts (domain_of b c l)) level
-    (front.live 0 q refl) in
-    grind (arith, nat_tests)
-
-by_start : (t : Bool) (d k : ℕ) → starts_core (cond t Nothing (Starts d causes.On)) ≡ Some k
-    → d ≡ k
-by_start true d k e = absurd (none-some k e)
-by_start false d k e = some_core d k e
+down_live b v c n ps p front at = grind (arith, nat_tests)
 
 start_downs : (t : Bool) (d : ℕ) (p : Part)
     → slice_get (down_parts (cond t Nothing (Starts d causes.On))) 0 ≡ Some p → ⊥
@@ -122,11 +94,7 @@ module _ (b : BoardValue) (v : Values) (m : MessageValue) (stands : Bool) where
   -- only a Start starts a core
   made_starts : (k : Kind) (c : ℕ) → starts_core (made k) ≡ Some c
       → (k ≡ kinds.Start) × (m.core.number ≡ c)
-  made_starts kinds.Down c e = absurd (none-some c e)
-  made_starts kinds.Start c e =
-      (refl, by_start ((ack_by b v m kinds.Start).applied == 0) m.core.number c e)
-  made_starts kinds.Off c e = absurd (none-some c e)
-  made_starts kinds.Reset c e = absurd (reset_starts (nat_lt m.life b.lives) c e)
+  made_starts k c e = grind (arith, nat_tests)
 
   follows : (t : Bool) (c : ℕ) → (t && not stands) ≡ false
       → starts_core (message_effect b m (cond t (ack_of m 1 false) (ack_of m 0 true)) kinds.Start)
@@ -137,23 +105,14 @@ module _ (b : BoardValue) (v : Values) (m : MessageValue) (stands : Bool) where
 
   made_stood : (k : Kind) (c : ℕ) → (switches b v m k && not stands) ≡ false
       → starts_core (made k) ≡ Some c → stands ≡ true
-  made_stood kinds.Down c wait e = absurd (none-some c e)
-  made_stood kinds.Start c wait e = follows (may_follow b v m.core.number m.number) c wait e
-  made_stood kinds.Off c wait e = absurd (none-some c e)
-  made_stood kinds.Reset c wait e = absurd (reset_starts (nat_lt m.life b.lives) c e)
+  made_stood k c wait e = grind (arith, nat_tests)
 
   -- only a Down takes one down
   made_downs : (k : Kind) (p : Part) → MayFollow b v (made k)
       → (switches b v m k && not stands) ≡ false
       → slice_get (down_parts (made k)) 0 ≡ Some p
       → stands ≡ true
-  made_downs kinds.Down p may wait at =
-      waited (not (begins_stale b v m.core.number m.parts)) stands
-      (down_live b v m.core.number (applied b v m.core.number m.parts) m.parts p may.0 at) wait
-  made_downs kinds.Start p may wait at =
-      absurd (start_downs ((ack_by b v m kinds.Start).applied == 0) m.core.number p at)
-  made_downs kinds.Off p may wait at = absurd (none-some p at)
-  made_downs kinds.Reset p may wait at = absurd (reset_downs (nat_lt m.life b.lives) p at)
+  made_downs k p may wait at = grind (arith, nat_tests, waited, down_live, start_downs, reset_downs)
 
   -- all of this of a message of this life; one of another life is ignored
   abbrev done : Bool → Effect
@@ -182,28 +141,9 @@ module _ (b : BoardValue) (v : Values) (m : MessageValue) (stands : Bool) where
   done_core : (t : Bool) (p : Part) → slice_get (down_parts (done t)) 0 ≡ Some p
       → down_core (done t) ≡ m.core.number
   unfolding effect_of
-  done_core true p at = by m.kind at
-    where
-      by : (k : Kind) → slice_get (down_parts (made k)) 0 ≡ Some p
-          → down_core (made k) ≡ m.core.number
-      by kinds.Down at = refl
-      by kinds.Start at =
-          absurd (start_downs ((ack_by b v m kinds.Start).applied == 0) m.core.number p at)
-      by kinds.Off at = absurd (none-some p at)
-      by kinds.Reset at = absurd (reset_downs (nat_lt m.life b.lives) p at)
-  done_core false p at = absurd (none-some p at)
+  done_core t p at = grind (arith, nat_tests)
 
 -- All calls --------------------------------------------------------------------------------------
-
-pub found_starts : (f : Effect) (c : ℕ) → found f ≡ Some c → starts_core f ≡ Some c
-found_starts Nothing c e = e
-found_starts (Starts d causes.Boot) c e = e
-found_starts (Starts d causes.On) c e = e
-found_starts (Starts d causes.Wake) c e = e
-found_starts (Starts d causes.Reset) c e = absurd (none-some c e)
-found_starts (Deepens d ps) c e = e
-found_starts Ends c e = e
-found_starts Begins c e = e
 
 module _ (b : BoardValue) (v : Values) (word : ℕ → ℕ) where
   abbrev stands_there : ℕ → Bool
@@ -216,17 +156,7 @@ module _ (b : BoardValue) (v : Values) (word : ℕ → ℕ) where
   pub all_found : (call : CtlCall) → waits b v word call ≡ false → (c : ℕ)
       → found (effect_of b call (reply b v call)) ≡ Some c → word c ≡ v.starts c
   unfolding reply delivery_of effect_of
-  all_found (asked.Deliver m) wait c e =
-      let life : Bool = is_this_life v.life m.life in
-      let stands : Bool = stands_there m.core.number in
-      let starts = found_starts (done b v m stands life) c e in
-      same_core m.core.number c (done_starts b v m stands life c starts).1
-      (done_stood b v m stands life c wait starts)
-  all_found (asked.Wake core halted) wait c e =
-      same_core core.number c (wake_finds core.number c (wake_of b v core.number halted) e)
-      (waited true (stands_there core.number) refl wait)
-  all_found (asked.Reset core) wait c e =
-      absurd (reset_finds core.number c (reset_of b v core.number) e)
+  all_found call wait c e = grind (arith, nat_tests)
 
   -- a core that is taken down does
   pub all_down : (call : CtlCall) → MayFollow b v (effect_of b call (reply b v call))
@@ -235,16 +165,8 @@ module _ (b : BoardValue) (v : Values) (word : ℕ → ℕ) where
       → word (down_core (effect_of b call (reply b v call)))
       ≡ v.starts (down_core (effect_of b call (reply b v call)))
   unfolding reply delivery_of effect_of
-  all_down (asked.Deliver m) may wait p at =
-      let life : Bool = is_this_life v.life m.life in
-      let stands : Bool = stands_there m.core.number in
-      same_core m.core.number (down_core (done b v m stands life))
-      (sym (done_core b v m stands life p at))
-      (done_downs b v m stands life p may wait at)
-  all_down (asked.Wake core halted) may wait p at =
-      absurd (kick_downs core.number causes.Wake (wake_of b v core.number halted) p at)
-  all_down (asked.Reset core) may wait p at =
-      absurd (kick_downs core.number causes.Reset (reset_of b v core.number) p at)
+  all_down call may wait p at =
+      grind (arith, nat_tests, same_core, done_core, done_downs, kick_downs)
 
 -- who is started by a message, a wake-up or a reset
 pub delivered_starts : (b : BoardValue) (v : Values) (m : MessageValue) (c : ℕ)
@@ -279,3 +201,48 @@ pub reset_starts_it : (b : BoardValue) (v : Values) (c k : ℕ)
     → c ≡ k
 unfolding reply effect_of
 reset_starts_it b v c k e = kick_names c k causes.Reset (reset_of b v c) e
+
+-- Valued ------------------------------------------------------------------------------------------
+-- What the power controller of a port keeps is as one keeps it; and who has the lock is a core of
+-- the board.
+
+-- The lock ---------------------------------------------------------------------------------------
+
+abbrev OnBoard : BoardValue → Option ℕ → Type 0
+OnBoard b lock = (c : ℕ) → lock ≡ Some c → c < cores b
+
+none_on : (b : BoardValue) → OnBoard b None
+none_on b c e = absurd (none-some c e)
+
+step_on : (b : BoardValue) (p : Port) (act : Act) → OnBoard b p.lock → May b p act
+    → OnBoard b (step b p act).lock
+unfolding step
+step_on b p act is may = grind (arith, nat_tests)
+
+pub run_on : (b : BoardValue) (acts : List Act) → IsPortRun b acts
+    → (c : ℕ) → (state b acts).lock ≡ Some c → c < cores b
+unfolding state
+run_on b [] run = none_on b
+run_on b (act ∷ acts) run = step_on b (state b acts) act (run_on b acts run.1) run.0
+
+-- The power controller's values ------------------------------------------------------------------
+
+module _ (b : BoardValue) (first : AreValues b (start_of_life b))
+    (follow : (v : Values) (f : Effect) → AreValues b v → MayFollow b v f
+    → AreValues b (change b f v))
+    (told : (v : Values) (call : CtlCall) → AreValues b v → IsCall b call
+    → AreValues b (after b call (reply b v call) v)) where
+  call_valued : (p : Port) (call : CtlCall) → AreValues b p.values → IsCall b call
+      → AreValues b (change b (effect_of b call (reply b p.values call)) p.values)
+  unfolding after
+  call_valued p call is can = told p.values call is can
+
+  step_valued : (p : Port) (act : Act) → AreValues b p.values → May b p act
+      → AreValues b (step b p act).values
+  unfolding step
+  step_valued p act is may = grind (arith, nat_tests, call_valued)
+
+  pub run_valued : (acts : List Act) → IsPortRun b acts → AreValues b (state b acts).values
+  unfolding state
+  run_valued [] run = first
+  run_valued (act ∷ acts) run = step_valued (state b acts) act (run_valued acts run.1) run.0

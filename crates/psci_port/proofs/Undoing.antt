@@ -1,31 +1,112 @@
 -- What parts that are applied, and starts, leave to be done of each message.
-use Rattle.std.proofs.Common.{◌+◌, ◌<◌, ◌==◌, ◌∙◌, ◌∷◌, ◌≡◌, ◌≤◌, ◌⊎◌, [], ap, arith, Bool, cond}
-use Rattle.std.proofs.Common.{false, inl, inr, List, None, not, Option, refl, Some, subst, suc}
-use Rattle.std.proofs.Common.{sym, take, true, zero, ℕ}
+use Rattle.std.proofs.lemmas.Bool.Decides.{nat_tests}
 use Rattle.std.specs.Prelude.{◌&&◌, slice_get}
-use Rattle.std.proofs.lemmas.Bool.{and_from, and_parts, cases_eq, cond-false, cond-true}
-use Rattle.std.proofs.lemmas.Bool.{eq-eqb, eqb-true, false≢true, ne_eqb}
+use Rattle.std.proofs.Common.{◌+◌, ◌<◌, ◌==◌, ◌∙◌, ◌∷◌, ◌≡◌, ◌≤◌, ◌⊎◌, [], ap, arith, Bool, cond}
+use Rattle.std.proofs.Common.{false, inl, inr, length, List, None, not, Option, refl, Some}
+use Rattle.std.proofs.Common.{subst, suc, sym, take, true, zero, ℕ}
+use Rattle.std.proofs.lemmas.Bool.{and_from, and_parts, cases_eq, cond-false, cond-true, eq-eqb}
+use Rattle.std.proofs.lemmas.Bool.{eqb-true, false≢true, ne_eqb}
 use Rattle.std.proofs.lemmas.Option.{none-some}
-use Rattle.psci_board.specs.Board.{BoardValue, cores, domain_of, height, up}
-use Rattle.psci_board.specs.Paths.{is_on_path}
+use Rattle.psci_board.specs.Board.{BoardValue, cores, domain_of, height, is_on_path, up}
+use Rattle.psci_ctl_spec.specs.Replies.{change, is_this_life, one_more, Starts}
+use Rattle.psci_ctl_spec.specs.History.{IsFront, IsSendable}
+use Rattle.psci_ctl_spec.specs.Values.{is_live, laid}
+use Rattle.psci_ctl_spec.specs.Values as controlled
+use Rattle.psci_ctl_spec.specs.declared.call.CtlCall.TheVariants as asked
 use Rattle.psci_ctl_spec.specs.psci_messages.Message.{ArePartsOf, MessageValue}
+use Rattle.psci_ctl_spec.specs.psci_messages.Slots.{OfCore, slot_of}
 use Rattle.psci_ctl_spec.specs.psci_messages.declared.kind.Kind.{Kind}
 use Rattle.psci_ctl_spec.specs.psci_messages.declared.kind.Kind.TheVariants as kinds
+use Rattle.psci_ctl_spec.specs.psci_messages.declared.kind.Kind.TheVariants.{Down, Start}
 use Rattle.psci_ctl_spec.specs.psci_messages.declared.part.Part.{Part}
 use Rattle.psci_ctl_spec.specs.psci_messages.declared.start.Cause.{Cause}
-use Rattle.psci_ctl_spec.specs.Changes.{change, one_more}
-use Rattle.psci_ctl_spec.proofs.Front.{take_get}
-use Rattle.psci_ctl_spec.specs.Follows.{IsFront}
-use Rattle.psci_ctl_spec.specs.Effects.{Starts}
-use Rattle.psci_ctl_spec.specs.Parts.{depth_or, is_live, laid}
-use Rattle.psci_ctl_spec.specs.Values as controlled
+use Rattle.psci_ctl_spec.specs.psci_messages.psci_state.Cores.{asks}
+use Rattle.psci_ctl_spec.proofs.Depths.{take_get}
+use Rattle.psci_world_spec.specs.Legal.{firmware_values, indexed, sent}
+use Rattle.psci_world_spec.specs.psci_fw_spec.Phases as phases
 use Rattle.psci_world_spec.specs.psci_fw_spec.Values.{Values}
-use Rattle.psci_headline.specs.psci_fw_laws.KnownBelow.{known_below}
-use Rattle.psci_headline.specs.Waiting.{IsLivePart}
-use Rattle.psci_headline.proofs.Controls.{IsKnown, part_level}
-use Rattle.psci_headline.proofs.Deepening.{AreApplied, keeps}
-use Rattle.psci_headline.proofs.Starting.{same_sum}
+use Rattle.psci_headline.specs.Settling.{IsLivePart}
+use Rattle.psci_headline.specs.psci_fw_laws.Messages.{IsSound, known_below}
+use Rattle.psci_headline.proofs.Controls.{AreApplied, IsKnown, keeps, part_level}
+use Rattle.psci_headline.proofs.Sending.{at_number}
+use Rattle.psci_headline.proofs.Nexts.{IsPast}
+use Rattle.psci_headline.proofs.Pursuing.{same_sum}
+use Rattle.psci_port.specs.Port.{Delivers, Port, stage_at, words}
+use Rattle.psci_port.specs.Resting.{IsAtRest}
+use Rattle.psci_port.specs.Rules.{May}
+use Rattle.psci_port.specs.Stages.{Normal}
 use Rattle.psci_port.specs.Undone.{is_undone, undone}
+use Rattle.psci_port.specs.Waiting.{switches, waits}
+use Rattle.psci_port.proofs.Mirrors.{IsMirror}
+
+-- Where a port is at rest, each outstanding message may be delivered: its core stands -------------
+
+-- The first item of a list.
+record HasFirst {A : Type 0} (xs : List A) : Type 0 where
+  pub item : A
+  pub at : slice_get xs 0 ≡ Some item
+
+first_of : {A : Type 0} → (xs : List A) → 0 < length xs → HasFirst xs
+first_of [] some = absurd (omega (arith, some))
+first_of (x ∷ xs) some = record { item = x; at = refl }
+
+life_is : (o : Option ℕ) (life : ℕ) → is_this_life o life ≡ true → o ≡ Some life
+life_is None life e = absurd (false≢true e)
+life_is (Some l) life e = ap (λ k. Some k) (eqb-true l life e)
+
+module _ (b : BoardValue) (p : Port) (mirror : IsMirror b p) (is : IsPast b p.past) where
+  abbrev v : Values
+  v = firmware_values b p.past
+
+  -- a core of the normal world runs for the firmware
+  runs : (c life : ℕ) → c < cores b → p.values.life ≡ Some life → life ≡ v.life
+      → stage_at p c ≡ Normal → v.phase c ≡ phases.Running
+  runs c life on present own at = grind (arith, nat_tests)
+
+  module _ (c : ℕ) (m : MessageValue) (out : v.outstanding (OfCore c) ≡ Some m)
+      (running : v.phase c ≡ phases.Running) where
+    -- no Start is outstanding for it
+    no_start : m.kind ≡ Start → ⊥
+    no_start kind =
+        let pending = (is.given.holds.slots.core c m out).start kind in absurd (cc)
+
+    -- and no Down, which asks for more than a running core does
+    no_down : m.kind ≡ Down → ⊥
+    no_down kind =
+        let slot = is.given.holds.slots.core c m out in
+        let known = is.given.holds.messages slot.listed.index m slot.listed.at in
+        let parts = is.given.parts m.parts
+        (subst (λ k. ArePartsOf k m.parts) kind known.sound.parts) in
+        let first : HasFirst m.parts = first_of m.parts parts.some in
+        let here : v.phase m.core.number ≡ phases.Running = ap v.phase slot.core ∙ running in
+        let asked_for = (known.present slot.listed.present).asked kind
+        (slot.number ∙ ap v.known (sym slot.core)) (λ pending. absurd (cc))
+        first.item first.at in
+        let zero : first.item.depth ≡ 0 =
+        asked_for ∙ ap (λ f. asks (phases.activity_of f) 0) here in
+        let some = parts.least 0 first.item first.at in
+        omega (arith, zero, some)
+
+  module _ (rest : IsAtRest b p) (can : (m : MessageValue) → IsSound b m → IsSendable b m)
+      (k : ℕ) (m : MessageValue) (at : indexed (sent p.past) k ≡ Some m)
+      (out : v.outstanding (slot_of m.kind m.core) ≡ Some m) where
+    sound : IsSound b m
+    sound = let there = at_number (sent p.past) k m at in
+        (is.given.holds.messages there.index m there.at).sound
+
+    -- a message that waits is none that is outstanding
+    by_kind : (kind : Kind) → m.kind ≡ kind → v.outstanding (slot_of kind m.core) ≡ Some m
+        → is_this_life p.values.life m.life ≡ true → switches b p.values m kind ≡ true
+        → stage_at p m.core.number ≡ Normal → ⊥
+    by_kind kind e there life switch normal =
+        grind (arith, nat_tests, no_down, runs, sound, life_is, no_start)
+
+    by_test : (t : Bool) → waits b p.values (words p) (asked.Deliver m) ≡ t
+        → waits b p.values (words p) (asked.Deliver m) ≡ false
+    by_test t e = grind (arith, nat_tests, and_parts, by_kind, sound)
+
+    pub heard : May b p (Delivers k m)
+    heard = grind (arith, nat_tests, sound, by_test)
 
 -- Sums -------------------------------------------------------------------------------------------
 
@@ -100,29 +181,13 @@ differs f g (suc n) = elim (differs f g n) [
 pub laid_new : (b : BoardValue) (c : ℕ) (ps : List Part) (depth : ℕ → ℕ → ℕ) (level place : ℕ)
     → (laid b c ps depth level place ≡ depth level place → ⊥)
     → (p : Part) × ((slice_get ps level ≡ Some p) × (laid b c ps depth level place ≡ p.depth))
-laid_new b c ps depth level place ne = by (is_on_path b c level place)
-    (slice_get ps level) refl refl
-  where
-    by : (t : Bool) (o : Option Part) → is_on_path b c level place ≡ t → slice_get ps level ≡ o
-        → (p : Part) × ((slice_get ps level ≡ Some p) × (laid b c ps depth level place ≡ p.depth))
-    by false o e f = absurd (ne (cond-false _ _ _ e))
-    by true None e f = absurd (ne (cond-true _ _ _ e ∙ ap (λ o. depth_or o (depth level place)) f))
-    by true (Some p) e f = (
-      p,
-      (f, cond-true _ _ _ e ∙ ap (λ o. depth_or o (depth level place)) f),
-    )
+laid_new b c ps depth level place ne = grind (arith, nat_tests)
 
 -- Parts of a message that was sent ---------------------------------------------------------------
 
 pub has_down : (ps : List Part) (level : ℕ) (p : Part) (kind : Kind) → ArePartsOf kind ps
     → slice_get ps level ≡ Some p → kind ≡ kinds.Down
-has_down ps level p kinds.Down are at = refl
-has_down ps level p kinds.Start are at =
-    absurd (none-some p (sym (ap (λ l. slice_get l level) are) ∙ at))
-has_down ps level p kinds.Off are at =
-    absurd (none-some p (sym (ap (λ l. slice_get l level) are) ∙ at))
-has_down ps level p kinds.Reset are at =
-    absurd (none-some p (sym (ap (λ l. slice_get l level) are) ∙ at))
+has_down ps level p kind are at = grind (arith, nat_tests)
 
 -- a part that is live once a core was started, was live before, and is not on that one's path
 module _ (b : BoardValue) (life : ℕ) (w : controlled.Values) (v : Values)
@@ -138,9 +203,7 @@ module _ (b : BoardValue) (life : ℕ) (w : controlled.Values) (v : Values)
   live_so : (starts : ℕ → ℕ) (level : ℕ) (p : Part) → slice_get x.parts level ≡ Some p
       → (p.generation == controlled.starts_below b starts (domain_of b d p.level)) ≡ true
       → IsLivePart b starts x level p
-  live_so starts level p get test =
-      eqb-true _ _ test ∙ same_sum b starts (domain_of b d p.level)
-      ∙ ap (λ l. known_below b starts l (up b l d)) (level_of level p get).0
+  live_so starts level p get test = grind (arith, nat_tests, eqb-true, same_sum, level_of)
 
   down : (level : ℕ) (p : Part) → slice_get x.parts level ≡ Some p → x.kind ≡ kinds.Down
   down level p get =

@@ -1,39 +1,36 @@
 -- What a delivery leaves to be done of each message.
-use Rattle.std.proofs.Common.{◌+◌, ◌<◌, ◌∙◌, ◌∷◌, ◌≡◌, ◌≤◌, [], ap, arith, Bool, cond}
-use Rattle.std.proofs.Common.{false, inl, inr, length, List, None, not, Option, refl, Some, subst}
-use Rattle.std.proofs.Common.{suc}
-use Rattle.std.proofs.Common.{sym, take, true, zero, ℕ}
+use Rattle.std.proofs.lemmas.Bool.Decides.{nat_tests}
+use Rattle.std.proofs.Common.{◌+◌, ◌<◌, ◌∙◌, ◌∷◌, ◌≡◌, ◌≤◌, [], ap, arith, Bool, cond, false}
+use Rattle.std.proofs.Common.{length, List, None, not, Option, refl, Some, subst, suc, sym, take}
+use Rattle.std.proofs.Common.{true, zero, ℕ}
 use Rattle.std.specs.Prelude.{◌||◌, nat_le, nat_lt, option_map, slice_get}
 use Rattle.std.proofs.lemmas.Bool.{eqb-true, false≢true}
 use Rattle.std.proofs.lemmas.Option.{none-some}
-use Rattle.psci_board.specs.Board.{BoardValue, domain_of, height, up}
+use Rattle.psci_board.specs.Board.{BoardValue, height, up}
 use Rattle.psci_ctl_spec.specs.psci_messages.Message.{MessageValue}
 use Rattle.psci_ctl_spec.specs.psci_messages.Slots.{is_done, is_kind, OfCore, OfSystem, Slot}
 use Rattle.psci_ctl_spec.specs.psci_messages.declared.kind.Kind.{Kind}
 use Rattle.psci_ctl_spec.specs.psci_messages.declared.kind.Kind.TheVariants as kinds
 use Rattle.psci_ctl_spec.specs.psci_messages.declared.start.Cause.TheVariants as causes
-use Rattle.psci_ctl_spec.specs.Changes.{after, change}
-use Rattle.psci_ctl_spec.proofs.Front.{take_get}
-use Rattle.psci_ctl_spec.specs.Follows.{IsFront, MayFollow}
+use Rattle.psci_ctl_spec.specs.Replies.{ack_by, ack_of, after, Begins, change, delivery_of}
+use Rattle.psci_ctl_spec.specs.Replies.{effect_of, Ends, is_this_life, may_follow}
+use Rattle.psci_ctl_spec.specs.Replies.{message_effect, reply}
+use Rattle.psci_ctl_spec.proofs.Depths.{take_get}
+use Rattle.psci_ctl_spec.specs.History.{IsFront, IsSendable, MayFollow}
 use Rattle.psci_ctl_spec.specs.declared.call.CtlCall.TheVariants as asked
 use Rattle.psci_ctl_spec.specs.declared.delivery.Delivery.TheVariants as deliveries
 use Rattle.psci_ctl_spec.specs.declared.reply.CtlReply.TheVariants as replies
-use Rattle.psci_ctl_spec.specs.Effects.{Begins, Ends, effect_of, message_effect}
-use Rattle.psci_ctl_spec.specs.Legal.{IsSendable}
-use Rattle.psci_ctl_spec.specs.Parts.{applied, laid}
-use Rattle.psci_ctl_spec.specs.Replies.{ack_by, ack_of, delivery_of, is_this_life, may_follow}
-use Rattle.psci_ctl_spec.specs.Replies.{reply}
+use Rattle.psci_ctl_spec.specs.Values.{applied}
 use Rattle.psci_ctl_spec.specs.Values as controlled
-use Rattle.psci_world_spec.specs.Lists.{indexed}
+use Rattle.psci_world_spec.specs.Legal.{indexed}
 use Rattle.psci_world_spec.specs.psci_fw_spec.Phases.{Phase}
 use Rattle.psci_world_spec.specs.psci_fw_spec.Values.{Values}
-use Rattle.psci_headline.specs.psci_fw_laws.Outstanding.{AreOutstanding}
-use Rattle.psci_headline.proofs.Controls.{IsKnown}
-use Rattle.psci_headline.proofs.Deepening.{AreApplied}
-use Rattle.psci_headline.proofs.Finding.{numbered_new, numbered_old}
-use Rattle.psci_headline.proofs.Items.{at_number}
-use Rattle.psci_headline.proofs.Slots.{core_slot, system_slot}
-use Rattle.psci_headline.proofs.Starting.{same_sum}
+use Rattle.psci_headline.specs.psci_fw_laws.Messages.{AreOutstanding}
+use Rattle.psci_headline.proofs.Controls.{AreApplied, IsKnown}
+use Rattle.psci_headline.proofs.Serving.{numbered_new, numbered_old}
+use Rattle.psci_headline.proofs.Sending.{at_number}
+use Rattle.psci_headline.proofs.Checking.{core_slot, system_slot}
+use Rattle.psci_headline.proofs.Pursuing.{same_sum}
 use Rattle.psci_port.specs.Served.{ends}
 use Rattle.psci_port.specs.Undone.{IsListed, LeavesLess, left_of, served, undone}
 use Rattle.psci_port.proofs.Undoing.{deepened, differs, fewer, started, undone_le}
@@ -86,17 +83,8 @@ applies : (b : BoardValue) (life : ℕ) (w : controlled.Values) (v : Values)
     → slice_get sent k ≡ Some m → m.life ≡ life → m.kind ≡ kinds.Down → (n : ℕ)
     → IsFront b w m.core.number (take n m.parts)
     → AreApplied b life w.starts sent m.core.number (take n m.parts)
-applies b life w v sent known k m at present kind n front = record {
-  index = k;
-  message = m;
-  at = at;
-  present = present;
-  kind = kind;
-  core = refl;
-  part = λ level p get. take_get m.parts n level p get;
-  live = λ level p get. front.live level p get ∙ same_sum b w.starts
-      (domain_of b m.core.number level);
-}
+applies b life w v sent known k m at present kind n front =
+    grind (arith, nat_tests, take_get, same_sum)
 
 module _ (b : BoardValue) (life : ℕ) (w : controlled.Values) (v : Values)
     (sent : List MessageValue) (known : IsKnown b life w.starts v sent) (k : ℕ) (m : MessageValue)
@@ -156,22 +144,7 @@ module _ (b : BoardValue) (life : ℕ) (w : controlled.Values) (v : Values)
       (up b level m.core.number) ≡ w.depth level (up b level m.core.number)) → ⊥)
       → undone b (change b (message_effect b m (ack_by b w m kind) kind) w) m.core.number m.parts
       < undone b w m.core.number m.parts
-  own_by kinds.Down kind may left moves =
-      let n : ℕ = applied b w m.core.number m.parts in
-      elim (differs (λ l. laid b m.core.number (take n m.parts) w.depth l (up b l m.core.number))
-      (λ l. w.depth l (up b l m.core.number)) (height b + 1)) [
-        | inl same ↦ absurd (moves (λ l low. same l (omega (arith, low))))
-        | inr there ↦ fewer b life w v sent known k m at present n may.0
-            (applies b life w v sent known k m at present kind n may.0) there.0 there.1.1
-      ]
-  own_by kinds.Start kind may left moves =
-      absurd (false≢true (sym left ∙ by (may_follow b w m.core.number m.number)))
-    where
-      by : (t : Bool) → is_done (cond t (ack_of m 1 false) (ack_of m 0 true)) m ≡ true
-      by true = no_down kind
-      by false = refl
-  own_by kinds.Off kind may left moves = absurd (false≢true (sym left ∙ no_down kind))
-  own_by kinds.Reset kind may left moves = absurd (false≢true (sym left ∙ no_down kind))
+  own_by h kind may left moves = grind (arith, nat_tests, differs, take, fewer, applies, no_down)
 
 -- A delivery leaves less
 pub leaves : (b : BoardValue) (w : controlled.Values) (v : ℕ → Values) (sent : List MessageValue)

@@ -1,5 +1,6 @@
 -- What a port keeps, at each moment of each of its runs.
-use Rattle.std.specs.Prelude.{◌≡◌, ℕ, ◌<◌, ◌≤◌, true, false, List, [], ◌∷◌, None, Some}
+use Rattle.std.specs.Prelude.{◌<◌, ◌∷◌, ◌≡◌, ◌≤◌, [], Bool, false, List, None, Option, Some, true}
+use Rattle.std.specs.Prelude.{ℕ}
 use Rattle.psci_board.specs.Board.{BoardValue, cores, height, up}
 use Rattle.psci_ctl_spec.specs.psci_messages.declared.start.Start.{Start}
 use Rattle.psci_ctl_spec.specs.Replies.{last_start}
@@ -7,18 +8,22 @@ use Rattle.psci_headline.specs.Safe.{AlwaysSafe}
 use Rattle.psci_world_spec.specs.declared.said.Record.{Record}
 use Rattle.psci_world_spec.specs.Legal.{IsLegalPast}
 use Rattle.psci_port.specs.Stages.{Entering, executes, has_stopped, may_hold}
-use Rattle.psci_port.specs.Port.{Port, Act, Locks, Unlocks, Calls, Enters, Takes, Finishes}
-use Rattle.psci_port.specs.Port.{TakesUp, Stands, Arms, Sleeps, Delivers, Wakes, Resets, Writes}
-use Rattle.psci_port.specs.Port.{Rouses, Rises, Turns, Opens, Cuts, Restarts, Reboots, stage_at}
-use Rattle.psci_port.specs.Port.{state, words}
+use Rattle.psci_port.specs.Port.{Port, Act, TakesUp, stage_at, state, words}
 
--- Power goes under no core that executes anything, the monitor included.
-pub record NoneCut (b : BoardValue) (p : Port) : Type 0 where
-  pub powered : (c level : ℕ) → c < cores b → level ≤ height b → executes (stage_at p c) ≡ true
-      → p.cut level (up b level c) ≡ false
+-- Power goes under no core that executes anything: by which cores execute something and which have
+-- said that they stand, which domains have no power, and how deep each was taken down.
+pub record KeepsPower (b : BoardValue) (executing standing : ℕ → Bool) (cut : ℕ → ℕ → Bool)
+    (depth : ℕ → ℕ → ℕ) : Type 0 where
+  pub powered : (c level : ℕ) → c < cores b → level ≤ height b → executing c ≡ true
+      → cut level (up b level c) ≡ false
   -- and where a core has not said that it stands, the power controller took nothing above it down
-  pub awake : (c level : ℕ) → c < cores b → level ≤ height b → has_stopped (stage_at p c) ≡ false
-      → p.values.depth level (up b level c) ≡ 0
+  pub awake : (c level : ℕ) → c < cores b → level ≤ height b → standing c ≡ false
+      → depth level (up b level c) ≡ 0
+
+-- Power goes under no core from its start until it says that it stands, or of an armed one its WFI.
+abbrev pub NoneCut : BoardValue → Port → Type 0
+NoneCut b p = KeepsPower b (λ c. executes (stage_at p c)) (λ c. has_stopped (stage_at p c)) p.cut
+    p.values.depth
 
 -- Who has the lock is alone inside the firmware, and is not cut off there.
 pub record IsLocked (p : Port) : Type 0 where
@@ -39,31 +44,15 @@ pub record WordsTell (p : Port) : Type 0 where
   -- what a core enters by is its last start
   pub enters : (c : ℕ) (s : Start) → stage_at p c ≡ Entering s → last_start p.values c ≡ Some s
 
--- what a core takes up is its last start, and none that it used before
+-- a start that is taken up is the last one, for which the door was opened, and was not used before
+abbrev pub IsLast : Option Start → Option Start → ℕ → ℕ → ℕ → Type 0
+IsLast door last opened used starts = (door ≡ last) × (opened ≡ starts) × (used < starts)
+
+-- so is what a core takes up
 abbrev pub TakesItsLast : Port → Act → Type 0
-TakesItsLast p (Locks c) = Unit {0}
-TakesItsLast p (Unlocks c) = Unit {0}
-TakesItsLast p (Calls c regs said) = Unit {0}
-TakesItsLast p (Enters c said) = Unit {0}
-TakesItsLast p (Takes c k said) = Unit {0}
-TakesItsLast p (Finishes c) = Unit {0}
-TakesItsLast p (TakesUp c) =
-    ((p.row c).door ≡ last_start p.values c) × ((p.row c).opened ≡ p.values.starts c)
-    × ((p.row c).used < p.values.starts c)
-TakesItsLast p (Stands c) = Unit {0}
-TakesItsLast p (Arms c) = Unit {0}
-TakesItsLast p (Sleeps c) = Unit {0}
-TakesItsLast p (Delivers k m) = Unit {0}
-TakesItsLast p (Wakes c) = Unit {0}
-TakesItsLast p (Resets c) = Unit {0}
-TakesItsLast p (Rouses c) = Unit {0}
-TakesItsLast p (Rises c) = Unit {0}
-TakesItsLast p (Turns c) = Unit {0}
-TakesItsLast p (Writes c) = Unit {0}
-TakesItsLast p (Opens c) = Unit {0}
-TakesItsLast p (Cuts level place) = Unit {0}
-TakesItsLast p Restarts = Unit {0}
-TakesItsLast p Reboots = Unit {0}
+TakesItsLast p (TakesUp c) = IsLast (p.row c).door (last_start p.values c) (p.row c).opened
+    (p.row c).used (p.values.starts c)
+TakesItsLast p act = Unit {0}
 
 -- the same of each act of a run
 abbrev pub EachTakesItsLast : BoardValue → List Act → Type 0

@@ -1,30 +1,27 @@
 -- A port, act by act: what its cores and its power controller do, and what each has written down.
 -- Between two acts anything else may happen.
-use Rattle.std.specs.Prelude.{ℕ, Bool, true, false, not, ◌==◌, ◌&&◌, if◌then◌else◌}
-use Rattle.std.specs.Prelude.{List, [], ◌∷◌, length, Option, None, Some}
-use Rattle.psci_board.specs.Board.{BoardValue}
-use Rattle.psci_board.specs.Paths.{is_on_path}
+use Rattle.std.specs.Prelude.{◌&&◌, ◌==◌, ◌∷◌, [], Bool, false, if◌then◌else◌, length, List}
+use Rattle.std.specs.Prelude.{None, not, Option, Some, true, ℕ}
+use Rattle.psci_board.specs.Board.{BoardValue, is_on_path}
 use Rattle.psci_ctl_spec.specs.psci_messages.Message.{MessageValue}
 use Rattle.psci_ctl_spec.specs.psci_messages.declared.start.Cause.{Cause}
 use Rattle.psci_ctl_spec.specs.psci_messages.declared.start.Cause.TheVariants as causes
 use Rattle.psci_ctl_spec.specs.psci_messages.declared.start.Start.{Start}
 use Rattle.psci_ctl_spec.specs.declared.call.CtlCall.{CtlCall}
 use Rattle.psci_ctl_spec.specs.declared.call.CtlCall.TheVariants as asked
-use Rattle.psci_ctl_spec.specs.Changes.{change}
-use Rattle.psci_ctl_spec.specs.Effects.{Effect, Nothing, Starts, Deepens, Ends, Begins, effect_of}
-use Rattle.psci_ctl_spec.specs.Replies.{last_start, reply}
+use Rattle.psci_ctl_spec.specs.Replies.{Begins, change, Deepens, Effect, effect_of, Ends}
+use Rattle.psci_ctl_spec.specs.Replies.{last_start, Nothing, reply, Starts}
 use Rattle.psci_ctl_spec.specs.Values.{Values, start_of_life}
 use Rattle.psci_world_spec.specs.psci_abi.declared.registers.Regs.{Regs}
 use Rattle.psci_world_spec.specs.declared.event.Event.{Event}
-use Rattle.psci_world_spec.specs.declared.event.Event.TheVariants.{Call, Enter, Wake, Reset}
-use Rattle.psci_world_spec.specs.declared.event.Event.TheVariants.{Deliver, Take}
+use Rattle.psci_world_spec.specs.declared.event.Event.TheVariants.{Call, Deliver, Enter, Reset}
+use Rattle.psci_world_spec.specs.declared.event.Event.TheVariants.{Take, Wake}
 use Rattle.psci_world_spec.specs.declared.said.Record.{Record}
 use Rattle.psci_world_spec.specs.declared.said.Said.{Said}
-use Rattle.psci_world_spec.specs.Histories.{acks}
-use Rattle.psci_world_spec.specs.Legal.{said_by}
+use Rattle.psci_world_spec.specs.Legal.{acks, said_by}
 use Rattle.psci_port.specs.Rebooted.{rebooted}
-use Rattle.psci_port.specs.Stages.{Stage, Standing, AtDoor, Armed, roused_at, stage_by, stage_in}
-use Rattle.psci_port.specs.Stages.{stage_said}
+use Rattle.psci_port.specs.Stages.{Armed, AtDoor, roused_at, Stage, stage_by, stage_in}
+use Rattle.psci_port.specs.Stages.{stage_said, Standing}
 
 -- The state --------------------------------------------------------------------------------------
 
@@ -115,7 +112,7 @@ pub data Act : Type 0 where
   Finishes : (core : ℕ) → Act
   -- it takes up the start at its open door
   TakesUp : (core : ℕ) → Act
-  -- it says that it stands, and executes nothing more
+  -- it says that it stands, and from here on its power may go
   Stands : (core : ℕ) → Act
   -- it says that it stands, with its WFI still to come; and comes there
   Arms : (core : ℕ) → Act

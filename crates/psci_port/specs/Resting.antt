@@ -12,10 +12,8 @@ use Rattle.psci_world_spec.specs.declared.event.Event.{Event}
 use Rattle.psci_world_spec.specs.declared.event.Event.TheVariants.{Take}
 use Rattle.psci_world_spec.specs.declared.said.Record.{Record}
 use Rattle.psci_port.specs.Stages.{Stage, Standing, AtDoor, Entering, Normal, Leaving, Armed, Woken}
-use Rattle.psci_port.specs.Port.{Port, Row, Act, Locks, Unlocks, Calls, Enters, Takes, Finishes}
-use Rattle.psci_port.specs.Port.{TakesUp, Stands, Arms, Sleeps, Delivers, Wakes, Resets, Writes}
-use Rattle.psci_port.specs.Port.{Rouses, Rises, Turns, Opens, Cuts, Restarts, Reboots, stage_at}
-use Rattle.psci_port.specs.Port.{words}
+use Rattle.psci_port.specs.Port.{Port, Row, Act, Locks, Unlocks, Enters, Finishes, TakesUp, Stands}
+use Rattle.psci_port.specs.Port.{Arms, Sleeps, Writes, Turns, Opens, stage_at, words}
 use Rattle.psci_port.specs.Rules.{May}
 use Rattle.psci_port.specs.Waiting.{waits}
 
@@ -52,26 +50,17 @@ is_shown (Some s) (Some t) =
 abbrev pub Goes : BoardValue → Port → Act → Type 0
 Goes b p (Locks c) = is_entering (stage_at p c) ≡ true
 Goes b p (Unlocks c) = (c < cores b) × (is_entering (stage_at p c) ≡ false)
-Goes b p (Calls c regs said) = ⊥
 Goes b p (Enters c said) = Unit {0}
-Goes b p (Takes c k said) = ⊥
 Goes b p (Finishes c) = c < cores b
 Goes b p (TakesUp c) = c < cores b
 Goes b p (Stands c) = c < cores b
 Goes b p (Arms c) = c < cores b
 Goes b p (Sleeps c) = c < cores b
-Goes b p (Delivers k m) = ⊥
-Goes b p (Wakes c) = ⊥
-Goes b p (Resets c) = ⊥
-Goes b p (Rouses c) = ⊥
-Goes b p (Rises c) = ⊥
 Goes b p (Turns c) = c < cores b
 Goes b p (Writes c) =
     (c < cores b) × (is_shown (p.row c).door (last_start p.values c) ≡ false)
 Goes b p (Opens c) = (c < cores b) × (((p.row c).opened == p.values.starts c) ≡ false)
-Goes b p (Cuts level place) = ⊥
-Goes b p Restarts = ⊥
-Goes b p Reboots = ⊥
+Goes b p act = ⊥
 
 -- and it waits for nothing
 abbrev pub IsDue : BoardValue → Port → Act → Type 0

@@ -5,20 +5,18 @@ use Rattle.psci_ctl_spec.specs.psci_messages.Message.{AckValue}
 use Rattle.psci_ctl_spec.specs.psci_messages.declared.kind.Kind.TheVariants as kinds
 use Rattle.psci_ctl_spec.specs.psci_messages.declared.start.Start.{Start}
 use Rattle.psci_ctl_spec.specs.declared.call.CtlCall.TheVariants as asked
-use Rattle.psci_ctl_spec.specs.Legal.{IsSendable}
+use Rattle.psci_ctl_spec.specs.History.{IsSendable}
 use Rattle.psci_ctl_spec.specs.Replies.{last_start}
 use Rattle.psci_world_spec.specs.psci_fw_spec.declared.call.FwCall.TheVariants as calls
 use Rattle.psci_world_spec.specs.declared.said.Record.{Record}
-use Rattle.psci_world_spec.specs.Histories.{acks, sent}
-use Rattle.psci_world_spec.specs.Legal.{asked_firmware}
-use Rattle.psci_world_spec.specs.Lists.{indexed}
+use Rattle.psci_world_spec.specs.Legal.{acks, asked_firmware, indexed, sent}
 use Rattle.psci_port.specs.Waiting.{stands, touches, waits}
-use Rattle.psci_port.specs.Stages.{Entering, Normal, Leaving, Armed, Woken, is_armed}
-use Rattle.psci_port.specs.Stages.{is_started, looks, may_hold}
-use Rattle.psci_port.specs.Port.{Port, Act, Locks, Unlocks, Calls, Enters, Takes, Finishes}
-use Rattle.psci_port.specs.Port.{TakesUp, Stands, Arms, Sleeps, Delivers, Wakes, Resets, Writes}
-use Rattle.psci_port.specs.Port.{Rouses, Rises, Turns, Opens, Cuts, Restarts, Reboots, stage_at}
-use Rattle.psci_port.specs.Port.{state, words}
+use Rattle.psci_port.specs.Stages.{Armed, Entering, is_armed, is_started, Leaving, looks}
+use Rattle.psci_port.specs.Stages.{may_hold, Normal, Woken}
+use Rattle.psci_port.specs.Port.{Act, Arms, Calls, Cuts, Delivers, Enters, Finishes, Locks}
+use Rattle.psci_port.specs.Port.{Opens, Port, Reboots, Resets, Restarts, Rises, Rouses, Sleeps}
+use Rattle.psci_port.specs.Port.{stage_at, Stands, state, Takes, TakesUp, Turns, Unlocks, Wakes}
+use Rattle.psci_port.specs.Port.{words, Writes}
 
 -- this core has the lock, and is inside no call of the firmware
 abbrev pub HasLock : Port → ℕ → Type 0
@@ -84,29 +82,13 @@ IsPortRun b (act ∷ acts) = May b (state b acts) act × IsPortRun b acts
 -- What a call of the firmware is going to say is its answer by what it found; and the mailbox
 -- invents nothing: what is delivered was sent, and what is taken was made.
 abbrev pub IsTrue : BoardValue → Port → Act → Type 0
-IsTrue b p (Locks c) = Unit {0}
-IsTrue b p (Unlocks c) = Unit {0}
 IsTrue b p (Calls c regs said) = said ≡ asked_firmware b p.past c (calls.Smc regs)
 IsTrue b p (Enters c said) = (s : Start) → stage_at p c ≡ Entering s
     → said ≡ asked_firmware b p.past c (calls.Enter s)
 IsTrue b p (Takes c k said) = (a : AckValue) × (indexed (acks p.past) k ≡ Some a)
     × (said ≡ asked_firmware b p.past 0 (calls.Take a))
-IsTrue b p (Finishes c) = Unit {0}
-IsTrue b p (TakesUp c) = Unit {0}
-IsTrue b p (Stands c) = Unit {0}
-IsTrue b p (Arms c) = Unit {0}
-IsTrue b p (Sleeps c) = Unit {0}
 IsTrue b p (Delivers k m) = indexed (sent p.past) k ≡ Some m
-IsTrue b p (Wakes c) = Unit {0}
-IsTrue b p (Resets c) = Unit {0}
-IsTrue b p (Rouses c) = Unit {0}
-IsTrue b p (Rises c) = Unit {0}
-IsTrue b p (Turns c) = Unit {0}
-IsTrue b p (Writes c) = Unit {0}
-IsTrue b p (Opens c) = Unit {0}
-IsTrue b p (Cuts level place) = Unit {0}
-IsTrue b p Restarts = Unit {0}
-IsTrue b p Reboots = Unit {0}
+IsTrue b p act = Unit {0}
 
 -- the same of each act of a run
 abbrev pub AreTrue : BoardValue → List Act → Type 0

@@ -7,11 +7,9 @@ use Rattle.psci_ctl_spec.specs.declared.call.CtlCall.TheVariants as asked
 use Rattle.psci_ctl_spec.specs.declared.delivery.Delivery.TheVariants as deliveries
 use Rattle.psci_ctl_spec.specs.declared.reply.CtlReply.{CtlReply}
 use Rattle.psci_ctl_spec.specs.declared.reply.CtlReply.TheVariants as replies
-use Rattle.psci_ctl_spec.specs.Changes.{after}
-use Rattle.psci_ctl_spec.specs.Replies.{reply}
+use Rattle.psci_ctl_spec.specs.Replies.{after, reply}
 use Rattle.psci_ctl_spec.specs.Values.{Values}
-use Rattle.psci_world_spec.specs.Histories.{firmware_values, sent}
-use Rattle.psci_world_spec.specs.Lists.{indexed}
+use Rattle.psci_world_spec.specs.Legal.{firmware_values, indexed, sent}
 use Rattle.psci_port.specs.Port.{Port, Delivers}
 use Rattle.psci_port.specs.Rules.{May}
 

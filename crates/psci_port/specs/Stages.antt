@@ -14,7 +14,7 @@ use Rattle.psci_world_spec.specs.declared.said.Said.TheVariants.{Fw}
 
 -- Where a core is.
 pub data Stage : Type 0 where
-  -- it stands, or has no power: it executes nothing
+  -- it stands, or has no power: it looks at its door and waits there, which power may cut off
   Standing : Stage
   -- it was started, and has not taken its start up
   AtDoor : Stage
@@ -31,7 +31,7 @@ pub data Stage : Type 0 where
 
 -- What holds of a stage --------------------------------------------------------------------------
 
--- a core executes something, the monitor included
+-- a core executes something that power may not cut off, the monitor included
 abbrev pub executes : Stage → Bool
 executes Standing = false
 executes AtDoor = true

@@ -1,17 +1,15 @@
 -- How much of a message is still to be carried out, and what a delivery leaves of that.
-use Rattle.std.specs.Prelude.{◌≡◌, ℕ, zero, ◌+◌, ◌<◌, ◌≤◌, Bool, not, ◌==◌, ◌&&◌, if◌then◌else◌}
-use Rattle.std.specs.Prelude.{List, [], ◌∷◌, false, Some}
+use Rattle.std.specs.Prelude.{◌&&◌, ◌+◌, ◌<◌, ◌==◌, ◌∷◌, ◌≡◌, ◌≤◌, [], Bool, false}
+use Rattle.std.specs.Prelude.{if◌then◌else◌, List, not, Some, zero, ℕ}
 use Rattle.psci_board.specs.Board.{BoardValue, up}
 use Rattle.psci_ctl_spec.specs.psci_messages.Message.{MessageValue}
 use Rattle.psci_ctl_spec.specs.psci_messages.Slots.{Slot, slot_of}
 use Rattle.psci_ctl_spec.specs.psci_messages.declared.part.Part.{Part}
 use Rattle.psci_ctl_spec.specs.declared.call.CtlCall.TheVariants as asked
-use Rattle.psci_ctl_spec.specs.Changes.{after}
-use Rattle.psci_ctl_spec.specs.Legal.{IsSendable}
-use Rattle.psci_ctl_spec.specs.Parts.{is_live}
-use Rattle.psci_ctl_spec.specs.Replies.{reply}
-use Rattle.psci_ctl_spec.specs.Values.{Values}
-use Rattle.psci_world_spec.specs.Lists.{indexed}
+use Rattle.psci_ctl_spec.specs.Replies.{after, reply}
+use Rattle.psci_ctl_spec.specs.History.{IsSendable}
+use Rattle.psci_ctl_spec.specs.Values.{is_live, Values}
+use Rattle.psci_world_spec.specs.Legal.{indexed}
 use Rattle.psci_port.specs.Served.{IsSpent, ends}
 
 -- a part of this core is live, and its domain not as deep

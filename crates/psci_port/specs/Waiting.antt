@@ -4,13 +4,12 @@ use Rattle.std.specs.Prelude.{ℕ, Bool, false, not, ◌==◌, ◌&&◌}
 use Rattle.psci_board.specs.Board.{BoardValue}
 use Rattle.psci_ctl_spec.specs.psci_messages.Message.{MessageValue}
 use Rattle.psci_ctl_spec.specs.psci_messages.declared.kind.Kind.{Kind}
-use Rattle.psci_ctl_spec.specs.psci_messages.declared.kind.Kind.TheVariants.{Down, Start, Off}
-use Rattle.psci_ctl_spec.specs.psci_messages.declared.kind.Kind.TheVariants.{Reset}
+use Rattle.psci_ctl_spec.specs.psci_messages.declared.kind.Kind.TheVariants.{Down, Off, Reset}
+use Rattle.psci_ctl_spec.specs.psci_messages.declared.kind.Kind.TheVariants.{Start}
 use Rattle.psci_ctl_spec.specs.declared.call.CtlCall.{CtlCall}
 use Rattle.psci_ctl_spec.specs.declared.call.CtlCall.TheVariants as calls
-use Rattle.psci_ctl_spec.specs.Parts.{begins_stale}
+use Rattle.psci_ctl_spec.specs.Values.{begins_stale, Values}
 use Rattle.psci_ctl_spec.specs.Replies.{is_this_life, may_follow}
-use Rattle.psci_ctl_spec.specs.Values.{Values}
 
 -- A message of this kind switches the power of its core in the core's present start: a Down whose
 -- first part is live, whatever number it has, and a Start that starts the core once more.

@@ -7,14 +7,7 @@ ghost use Rattle.psci_ctl_spec.specs.psci_messages.Slots.{Slot};
 ghost use Rattle.psci_port.specs.Port.{Act, state};
 ghost use Rattle.psci_port.specs.Rules.{AreTrue, IsPortRun};
 ghost use Rattle.psci_port.specs.Undone.{IsListed, LeavesLess};
-ghost use Rattle.psci_world_spec.specs.Histories.{firmware_values, sent};
-ghost use Rattle.psci_world_spec.specs.Lists.{indexed};
-
-use psci_board::{law_paths, law_sizes};
-use psci_ctl_spec::{
-    law_acknowledgements, law_limits, law_parts, law_replies, law_sums, law_values,
-};
-use psci_headline::{law_agreement, law_caller, law_controlled, law_kept, law_sent};
+ghost use Rattle.psci_world_spec.specs.Legal.{firmware_values, indexed, sent};
 
 /// A delivery that brings something about ends its message, or leaves fewer of its parts to be
 /// carried out; and it leaves no more of any other message of its life. So a Down of so many parts
@@ -28,19 +21,4 @@ pub fn law_undone()
         → IsBoard b → IsPortRun b acts → AreTrue b acts
         → (firmware_values b (state b acts).past).outstanding slot ≡ Some m
         → IsListed b (sent (state b acts).past) slot m }
-{
-    law_sizes();
-    law_paths();
-    law_parts();
-    law_values();
-    law_sums();
-    law_acknowledgements();
-    law_replies();
-    law_limits();
-    psci_headline::law_values();
-    law_caller();
-    law_kept();
-    law_sent();
-    law_controlled();
-    law_agreement();
-}
+{}

@@ -3,28 +3,22 @@
 ghost use Rattle.std.specs.Prelude.{◌≡◌, ◌<◌, ℕ, ◌∷◌, false, List};
 ghost use Rattle.psci_board.specs.Board.{BoardValue, IsBoard};
 ghost use Rattle.psci_headline.specs.Complete.{IsToldWhole};
-ghost use Rattle.psci_headline.specs.Drained.{AreAtRest};
-ghost use Rattle.psci_headline.specs.Settling.{is_halting};
+ghost use Rattle.psci_headline.specs.Settling.{AreAtRest, is_halting};
 ghost use Rattle.psci_port.specs.Kept.{AreLegal, AreSafe, EachTakesItsLast, IsLocked, NoneCut};
-ghost use Rattle.psci_port.specs.Kept.{WordsTell, runs};
+ghost use Rattle.psci_port.specs.Kept.{runs, WordsTell};
 ghost use Rattle.psci_port.specs.Port.{Act, state};
 ghost use Rattle.psci_port.specs.Rebooted.{rebooted};
 ghost use Rattle.psci_port.specs.Resting.{IsAtRest, IsDue, left};
 ghost use Rattle.psci_port.specs.Rules.{AreTrue, IsPortRun};
 ghost use Rattle.psci_port.specs.Served.{AllServed, AreHeard};
-ghost use Rattle.psci_world_spec.specs.Histories.{firmware_values};
+ghost use Rattle.psci_world_spec.specs.Legal.{firmware_values};
 
-use psci_board::{law_children, law_paths, law_sizes};
-use psci_ctl_spec::{
-    law_acknowledgements, law_depths, law_limits, law_parts, law_replies, law_sums, law_values,
-};
-use psci_headline::{
-    law_agreement, law_caller, law_complete, law_controlled, law_granted, law_kept,
-    law_never_refused, law_safe, law_sent, law_waiting,
-};
+use psci_board::{law_paths, law_sizes};
+use psci_ctl_spec::{law_limits, law_replies, law_values};
+use psci_headline::{law_never_refused, law_safe};
 
-/// Power goes under no core that executes anything, the monitor included: whatever messages are
-/// delivered, and whatever the firmware answers.
+/// Power goes under no core from its start until it says that it stands, or of an armed one until
+/// its WFI: whatever messages are delivered, and whatever the firmware answers.
 pub fn law_power()
     ensures { (b : BoardValue) (acts : List Act) → IsBoard b → IsPortRun b acts
         → NoneCut b (state b acts) }
@@ -95,25 +89,4 @@ pub fn law_agrees()
         → AreHeard b (state b acts)
         × (is_halting b (state b acts).past ≡ false → AllServed b (state b acts)
         → AreAtRest b (state b acts).past × IsToldWhole b (state b acts).past) }
-{
-    law_sizes();
-    law_paths();
-    law_children();
-    law_parts();
-    law_values();
-    law_sums();
-    law_acknowledgements();
-    law_replies();
-    law_limits();
-    law_depths();
-    psci_headline::law_values();
-    law_caller();
-    law_kept();
-    law_granted();
-    law_sent();
-    law_controlled();
-    law_agreement();
-    law_never_refused();
-    law_waiting();
-    law_complete();
-}
+{}

@@ -1,3 +1,4 @@
-pub mod FrameDigits
+pub mod Lines
 pub mod RadixDigits
-pub mod LineFeeds
+mod ReadingRows
+pub mod Runs

@@ -1,12 +1,16 @@
 -- The digits of a number, written from the last to the first.
-use Rattle.std.proofs.Common.{◌≡◌, ℕ, suc, ◌+◌, ◌-◌, ◌/◌, ◌%◌, ◌^◌, ◌<◌, ◌≤◌, ◌*◌, ◌==◌, true}
-use Rattle.std.proofs.Common.{false, List, ◌∷◌, ◌++◌, length, drop, set, ap, subst, sym, ◌∙◌}
-use Rattle.std.proofs.Common.{arith}
+use Rattle.std.specs.Fmt.{digit_glyph, digits, digits_onto}
+use Rattle.std.specs.List.{copy_within}
+use Rattle.std.proofs.Common.{◌%◌, ◌*◌, ◌++◌, ◌+◌, ◌-◌, ◌/◌, ◌<◌, ◌==◌, ◌^◌, ◌∙◌, ◌∷◌, ◌≡◌, ◌≤◌}
+use Rattle.std.proofs.Common.{[], ap, arith, Bool, drop, false, get_or, if◌then◌else◌, length}
+use Rattle.std.proofs.Common.{List, refl, set, subst, suc, sym, take, true, ℕ}
 use Rattle.std.proofs.Math.Nat.{pow-suc}
 use Rattle.std.proofs.lemmas.Bool.Decides.{nat_tests}
-use Rattle.std.proofs.lemmas.List.{drop-set}
-use Rattle.std.specs.Fmt.{digits, digits_onto, digit_glyph}
-use Rattle.psci_record.specs.Texts.{base, places}
+use Rattle.std.proofs.lemmas.List.{drop-set, drop_all, drop_more, length-append, length-drop}
+use Rattle.std.proofs.lemmas.List.{take_all}
+use Rattle.std.proofs.lemmas.List.Edits.{take-paste}
+use Rattle.psci_record.specs.Texts.{base, byte_text, bytes_text, places, some_byte}
+use Rattle.psci_record.specs.Texts.{with_byte}
 use Rattle.psci_record.specs.declared.digits.Radix.{Radix}
 use Rattle.psci_record.specs.declared.digits.Radix.TheVariants.{Decimal, Hexadecimal}
 
@@ -45,7 +49,7 @@ none_yet Hexadecimal n tail h = grind (arith, nat_tests)
 same_glyph : (d x : ℕ) (bytes tail : List ℕ) → d ≡ x → bytes ≡ tail → d ∷ bytes ≡ x ∷ tail
 same_glyph d x bytes tail e f = ap (λ b. b ∷ bytes) e ∙ ap (λ l. x ∷ l) f
 
-less : (r : Radix) (n m : ℕ) → n < m * base r → n / base r < m
+pub less : (r : Radix) (n m : ℕ) → n < m * base r → n / base r < m
 less Decimal n m h = grind (arith, h)
 less Hexadecimal n m h = grind (arith, h)
 
@@ -129,3 +133,118 @@ module _ (r : Radix) (n : ℕ) (tail : List ℕ) (left rest digit b : ℕ) (byte
   pub ends : rest / b ≡ 0 → room ≡ digits (base r) false n ++ tail
   ends h = all_done r n tail (left - 1) rest digit bytes room one
       (is_digit r rest b digit eb told) put (subst (λ k. rest / k ≡ 0) eb h)
+
+-- The digits of a frame, written from its last byte to its first ----------------------------------
+
+-- the bytes from one on: that one before those behind it
+pub one_byte : (frame : List ℕ) (left : ℕ) → 0 < left → left ≤ length frame
+    → bytes_text (drop (left - 1) frame)
+    ≡ with_byte (get_or frame (left - 1) 0) (bytes_text (drop left frame))
+unfolding bytes_text
+one_byte frame left some h =
+    ap bytes_text (drop_more frame (left - 1) 0 (omega arith))
+    ∙ ap (λ k. with_byte (get_or frame (left - 1) 0) (bytes_text (drop k frame))) (omega arith)
+
+-- nothing is written before the first step
+pub at_end : (frame tail : List ℕ) → length frame ≤ 53
+    → tail ≡ bytes_text (drop 53 frame) ++ tail
+unfolding bytes_text
+at_end frame tail h = ap (λ bytes. bytes_text bytes ++ tail) (sym (drop_all 53 frame h))
+
+-- as much is left to the right: nothing was written
+pub nothing : (text tail room : List ℕ) → length room ≡ length tail → room ≡ text ++ tail
+    → text ≡ []
+nothing [] tail room e w = refl
+nothing (code ∷ more) tail room e w =
+    absurd (omega (arith, e, ap length w, length-append (code ∷ more) tail))
+
+-- less is left: something was
+pub something : (text tail room : List ℕ) → (length room ≡ length tail → ⊥)
+    → room ≡ text ++ tail → text ≡ [] → ⊥
+something text tail room h w e = h (ap length w ∙ ap (λ t. length (t ++ tail)) e)
+
+by_some : (byte : ℕ) (text : List ℕ) → (text ≡ [] → ⊥)
+    → with_byte byte text ≡ byte_text byte ++ text
+by_some byte [] h = absurd (h refl)
+by_some byte (code ∷ more) h = refl
+
+by_zero : (byte : ℕ) (b : Bool) → b ≡ false
+    → (if b then [] else byte_text byte) ≡ byte_text byte ++ []
+by_zero byte true e = absurd (search arith)
+by_zero byte false e = refl
+
+by_byte : (byte : ℕ) (text : List ℕ) → (byte ≡ 0 → ⊥)
+    → with_byte byte text ≡ byte_text byte ++ text
+by_byte byte [] h = by_zero byte (byte == 0) (not_zero byte h)
+by_byte byte (code ∷ more) h = refl
+
+by_none : (byte : ℕ) (b : Bool) → b ≡ true → (if b then [] else byte_text byte) ≡ []
+by_none byte true e = refl
+by_none byte false e = absurd (search arith)
+
+left_out : (byte : ℕ) (text : List ℕ) → byte ≡ 0 → text ≡ [] → with_byte byte text ≡ text
+left_out byte [] e t = by_none byte (byte == 0) (is_zero byte e)
+left_out byte (code ∷ more) e t = absurd (search (arith, t))
+
+module _ (frame room tail : List ℕ) (left : ℕ) (some : 0 < left) (fits : left ≤ length frame)
+    (w : room ≡ bytes_text (drop left frame) ++ tail) where
+  -- this byte is written
+  pub writes_byte : (new : List ℕ) → (get_or frame (left - 1) 0 ≡ 0 → ⊥)
+      → new ≡ byte_text (get_or frame (left - 1) 0) ++ room
+      → new ≡ bytes_text (drop (left - 1) frame) ++ tail
+  writes_byte new h e =
+      e ∙ ap (λ r. byte_text (get_or frame (left - 1) 0) ++ r) w
+      ∙ ap (λ text. text ++ tail) (sym (one_byte frame left some fits
+      ∙ by_byte (get_or frame (left - 1) 0) (bytes_text (drop left frame)) h))
+
+  -- a zero is, where some byte behind it is
+  pub writes_zero : (new : List ℕ) → (length room ≡ length tail → ⊥)
+      → new ≡ byte_text (get_or frame (left - 1) 0) ++ room
+      → new ≡ bytes_text (drop (left - 1) frame) ++ tail
+  writes_zero new h e =
+      e ∙ ap (λ r. byte_text (get_or frame (left - 1) 0) ++ r) w
+      ∙ ap (λ text. text ++ tail) (sym (one_byte frame left some fits
+      ∙ by_some (get_or frame (left - 1) 0) (bytes_text (drop left frame))
+      (something (bytes_text (drop left frame)) tail room h w)))
+
+  -- and else is left out
+  pub leaves_out : get_or frame (left - 1) 0 ≡ 0 → length room ≡ length tail
+      → room ≡ bytes_text (drop (left - 1) frame) ++ tail
+  leaves_out z e =
+      w ∙ ap (λ text. text ++ tail) (sym (one_byte frame left some fits
+      ∙ left_out (get_or frame (left - 1) 0) (bytes_text (drop left frame)) z
+      (nothing (bytes_text (drop left frame)) tail room e w)))
+
+-- what is written stands as it is
+pub as_it_is : (text tail room : List ℕ) → (length room ≡ length tail → ⊥)
+    → room ≡ text ++ tail → room ≡ some_byte text ++ tail
+as_it_is [] tail room h w = absurd (h (ap length w))
+as_it_is (code ∷ more) tail room h w = w
+
+-- where nothing is, the first byte is written
+pub first_byte : (text tail room new : List ℕ) → length room ≡ length tail
+    → room ≡ text ++ tail → new ≡ byte_text 0 ++ room → new ≡ some_byte text ++ tail
+first_byte [] tail room new e w h = h ∙ ap (λ r. byte_text 0 ++ r) w
+first_byte (code ∷ more) tail room new e w h =
+    absurd (something (code ∷ more) tail room
+    (λ same. omega (arith, same, ap length w, length-append (code ∷ more) tail)) w
+    (nothing (code ∷ more) tail room e w))
+
+-- A line ends where the room for it does, and is moved to where that begins -----------------------
+
+-- the line feed stands last
+pub line_feed_last : (room : List ℕ) → length room ≡ 256 → drop 255 (set room 255 10) ≡ 10 ∷ []
+line_feed_last room long =
+    drop-set room 255 10 (omega arith) ∙ ap (λ l. 10 ∷ l) (drop_all 256 room (omega arith))
+
+-- what is moved to the beginning stands there
+pub moved : (room : List ℕ) (start : ℕ) → length room ≡ 256 → start ≤ 256
+    → take (256 - start) (copy_within room start (length room) 0) ≡ drop start room
+moved room start long fits =
+    let whole : length (drop start room) ≡ 256 - start =
+    length-drop start room ∙ omega (arith, long) in
+    let none : 256 - start ≡ 0 + (256 - start) = omega arith in
+    ap (λ m. take (256 - start) (copy_within room start m 0)) long
+    ∙ ap (λ m. take m (copy_within room start 256 0)) none
+    ∙ take-paste room 0 (drop start room) (256 - start) (omega arith) (omega (arith, whole))
+    ∙ take_all (256 - start) (drop start room) (omega (arith, whole))

@@ -51,10 +51,19 @@ abbrev pub with_byte : ℕ → List ℕ → List ℕ
 with_byte byte [] = if byte == 0 then [] else byte_text byte
 with_byte byte (code ∷ more) = byte_text byte ++ (code ∷ more)
 
--- a frame, without the zero bytes at its end
-unfoldable pub frame_text : List ℕ → List ℕ
-frame_text [] = []
-frame_text (byte ∷ bytes) = with_byte byte (frame_text bytes)
+-- the bytes of a frame, without the zero bytes at its end
+unfoldable pub bytes_text : List ℕ → List ℕ
+bytes_text [] = []
+bytes_text (byte ∷ bytes) = with_byte byte (bytes_text bytes)
+
+-- at least one byte: of an empty slot its first
+abbrev pub some_byte : List ℕ → List ℕ
+some_byte [] = codes "00"
+some_byte (code ∷ more) = code ∷ more
+
+-- a frame
+abbrev pub frame_text : List ℕ → List ℕ
+frame_text frame = some_byte (bytes_text frame)
 
 -- Answers --------------------------------------------------------------------------------------
 

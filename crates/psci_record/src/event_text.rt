@@ -3,9 +3,8 @@
 ghost use Rattle.std.specs.Prelude.{◌≡◌, ◌+◌, ◌≤◌, ◌++◌, codes, drop, length, take};
 ghost use Rattle.psci_record.specs.Texts.{begins_text, call_text, core_text, deliver_text};
 ghost use Rattle.psci_record.specs.Texts.{enter_text, hexadecimal, leaves_text, line_of};
-ghost use Rattle.psci_record.specs.Texts.{outcome_text};
-ghost use Rattle.psci_record.specs.Texts.{poll_text, reset_text, stands_text, take_text};
-ghost use Rattle.psci_record.specs.Texts.{wake_text};
+ghost use Rattle.psci_record.specs.Texts.{outcome_text, poll_text, reset_text, stands_text};
+ghost use Rattle.psci_record.specs.Texts.{take_text, wake_text};
 
 use crate::core_text::{write_core, write_counted, write_register};
 use crate::digits::write_word;

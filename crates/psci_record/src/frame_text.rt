@@ -6,7 +6,8 @@ ghost use Rattle.psci_record.specs.Texts.{byte_text, frame_text};
 use crate::digits::digit;
 use crate::line::FRAME_BYTES;
 
-/// Writes a frame without the zero bytes at its end; answers where it begins.
+/// Writes a frame without the zero bytes at its end, but for its first byte; answers where it
+/// begins.
 #[inline(never)]
 pub fn write_frame(frame: &[u8; FRAME_BYTES], room: &mut [u8], end: usize) -> usize
     requires least { 106 ≤ end }
@@ -24,7 +25,10 @@ pub fn write_frame(frame: &[u8; FRAME_BYTES], room: &mut [u8], end: usize) -> us
             start = write_byte(byte, room, start);
         }
     }
-    start
+    if start < end {
+        return start;
+    }
+    write_byte(0, room, end)
 }
 
 /// Writes the two digits of a byte; answers where they begin.

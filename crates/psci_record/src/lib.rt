@@ -10,6 +10,7 @@ mod core_text;
 mod digits;
 mod event_text;
 mod frame_text;
+mod laws;
 mod line;
 mod outcome_text;
 mod reply_text;
@@ -19,5 +20,6 @@ pub use event_text::{
     write_begins, write_call, write_deliver, write_enter, write_leaves, write_poll, write_reset,
     write_stands, write_take, write_wake,
 };
+pub use laws::law_lines;
 pub use line::{Begun, FRAME_BYTES, Named, Next, Outcome, Polled, Reply, Started, Taken};
 pub use room::LONGEST_LINE;

@@ -1,17 +1,22 @@
 -- Reading ahead, step after step.
-use Rattle.std.proofs.Common.{◌≡◌, ℕ, ◌<◌, Bool, true, false, List, [], ◌++◌, length, take, refl}
-use Rattle.std.proofs.Common.{ap, sym, ◌∙◌, arith, Option, append_assoc, append-nil, Result, Ok}
-use Rattle.std.proofs.Common.{Err, IfOk, IfErr, OnErr, IsErr, IsErrAnd, length-append, subst}
 use Rattle.std.specs.Io.KnownBytes.{Appends, Keeps}
+use Rattle.std.proofs.Common.{◌++◌, ◌<◌, ◌∙◌, ◌∷◌, ◌≡◌, ◌≤◌, [], ap, append-nil, append_assoc}
+use Rattle.std.proofs.Common.{arith, Bool, cond, Err, false, IfErr, IfOk, inr, IsErr, IsErrAnd}
+use Rattle.std.proofs.Common.{length, length-append, List, nat_lt, None, Ok, OnErr, Option, refl}
+use Rattle.std.proofs.Common.{Result, Some, subst, sym, take, true, ℕ}
+use Rattle.std.proofs.lemmas.Bool.Decides.{nat_tests}
+use Rattle.std.proofs.lemmas.List.{take_all}
+use borrow.Author.Tests.{ltb-false, ltb-true}
+use Rattle.psci_script.specs.EventText.{Answered, has_line_feed, ReadAhead, Refills}
+use Rattle.psci_script.specs.Progress.{Ahead, FailsAhead, FailsLine, FindsLine, IsLineFront}
+use Rattle.psci_script.specs.Progress.{Progress, progress, ReadFailed, ReadsAhead, SameDevices}
+use Rattle.psci_script.specs.Progress.{StaySound, WriteFailed}
 use Rattle.psci_script.specs.declared.fault.ReplayFault.{ReplayFault}
 use Rattle.psci_script.specs.declared.fault.ReplayFault.TheVariants.{Read, Write}
-use Rattle.psci_script.specs.Answered.{Answered}
-use Rattle.psci_script.specs.Block.{ReadAhead, Refills}
-use Rattle.psci_script.specs.declared.progress.Progress.{Progress as Fields}
-use Rattle.psci_script.specs.Progress.{Progress, progress, SameDevices, StaySound, Ahead}
-use Rattle.psci_script.specs.Progress.{WriteFailed, ReadFailed, ReadsAhead, FailsAhead}
-use Rattle.psci_script.proofs.Known.{appends_more, consumes_more, consumes_keeps, appends_none}
-use Rattle.psci_script.proofs.Known.{consumes_none}
+use Rattle.psci_script.specs.declared.transfer.Extent.{Extent}
+use Rattle.psci_script.specs.declared.telling.Progress.{Progress as Fields}
+use Rattle.psci_script.proofs.Finish.{appends_more, appends_none, consumes_keeps, consumes_more}
+use Rattle.psci_script.proofs.Finish.{consumes_none}
 
 -- the same devices, and none of them failed, from step to step
 pub same_more : {S K : Type 0} {s t u : Fields S K} → SameDevices s t → SameDevices t u
@@ -177,3 +182,61 @@ write_failed_ahead (Ok b) e s t h w front left = absurd (h.1)
 write_failed_ahead (Err f) e s t h w front left =
     subst (λ (x : ReplayFault). FailsAhead x s t) (sym (h.1 ∙ w))
     (write_failed_at s t front.0 front.1 left)
+
+-- What a call for the next line finds -------------------------------------------------------------
+
+not_found : (e : ReplayFault) (n : ℕ) (s m t : Progress) → FailsAhead e m t → Ahead s m
+    → IsLineFront n m.block.unread → FailsLine n e s t
+not_found Read n s m t h a f = grind (arith, nat_tests, read_failed_more)
+not_found Write n s m t h a f = write_failed_more s m t a h
+not_found e n s m t h a f = absurd h
+
+pub finds_fault : (r : Result (Option Extent) ReplayFault) (e : ReplayFault) (n : ℕ)
+    (s m t : Progress)
+    → IsErr r × IsErrAnd r (λ f. f ≡ e) → FailsAhead e m t → Ahead s m
+    → IsLineFront n m.block.unread
+    → FindsLine n r s t
+finds_fault (Ok o) e n s m t h k a f = absurd (h.1)
+finds_fault (Err x) e n s m t h k a f = grind (arith, nat_tests, not_found)
+
+last_by : (b : Bool) (n : ℕ) (s t : Progress) → nat_lt 0 (length t.block.unread) ≡ b → Ahead s t
+    → t.block.ended ≡ true → length t.block.unread ≤ 256 → has_line_feed t.block.unread ≡ false
+    → (0 < length t.block.unread → n ≤ 1000000)
+    → FindsLine n (Ok (cond b (Some (record {
+      line = length t.block.unread;
+      taken = length t.block.unread;
+    })) None)) s t
+last_by true n s t e a end few f k =
+    let some : 0 < length t.block.unread = ltb-true 0 (length t.block.unread) e in (
+      a,
+      (
+        few,
+        ap has_line_feed (take_all (length t.block.unread) t.block.unread (omega arith))
+            ∙ f,
+        inr (refl, refl, some, end),
+      ),
+      k some,
+    )
+last_by false n s t e a end few f k =
+    let none : length t.block.unread ≤ 0 = ltb-false 0 (length t.block.unread) e in
+    (a, empty t.block.unread none, end) where
+      empty : (xs : List ℕ) → length xs ≤ 0 → xs ≡ []
+      empty [] h = refl
+      empty (x ∷ xs) h = absurd (omega arith)
+
+abbrev pub last_extent : List ℕ → Option Extent
+last_extent xs = cond (nat_lt 0 (length xs)) (Some (record { line = length xs; taken = length xs }))
+    None
+
+pub reads_as : (b d : Bool) (m t : Progress) → b ≡ d → ReadsAhead (Ok b) m t → ReadsAhead (Ok d) m t
+reads_as b d m t e h = subst (λ (x : Bool). ReadsAhead (Ok x) m t) e h
+
+pub finds_last : (o : Option Extent) (n : ℕ) (s m t : Progress) → o ≡ last_extent t.block.unread
+    → Ahead s m → ReadsAhead (Ok false) m t → length m.block.unread ≤ 256
+    → has_line_feed m.block.unread ≡ false → (0 < length m.block.unread → n ≤ 1000000)
+    → FindsLine n (Ok o) s t
+finds_last o n s m t e a r few f k =
+    subst (λ (x : Option Extent). FindsLine n (Ok x) s t) (sym e)
+    (last_by (nat_lt 0 (length t.block.unread)) n s t refl (ahead_more s m t a r.0) r.2
+    (omega (arith, ap length r.1)) (ap has_line_feed r.1 ∙ f)
+    (λ h. k (omega (arith, ap length r.1))))

@@ -6,7 +6,7 @@ use Rattle.psci_world_spec.specs.psci_fw_spec.declared.outcome.Act.TheVariants a
 use Rattle.psci_world_spec.specs.declared.event.Event.TheVariants.{Enter}
 use Rattle.psci_world_spec.specs.declared.said.Record.{Record}
 use Rattle.psci_world_spec.specs.declared.said.Said.TheVariants.{Fw}
-use Rattle.psci_script.specs.ScriptRun.{GoesOn, ScriptRun}
+use Rattle.psci_script.specs.Told.{GoesOn, ScriptRun}
 
 -- a start at the boot address
 abbrev pub entered : ℕ → ℕ → Record

@@ -1,26 +1,121 @@
 -- Event lines are read in no other way than they are spelled.
-use Rattle.std.proofs.lemmas.Bool.Decides.{nat_tests}
-use Rattle.std.proofs.Common.{◌≡◌, ℕ, zero, suc, ◌<◌, ◌≤◌, Bool, true, false, cond, eqb, eqb-true}
-use Rattle.std.proofs.Common.{List, [], ◌∷◌, ◌++◌, length, Option, Some, None, refl, ap, sym, ◌∙◌}
-use Rattle.std.proofs.Common.{arith, subst}
-use Rattle.std.specs.Prelude.{codes, option_map, unwrap_or}
+use Rattle.std.specs.Char.{is_ascii_digit, is_ascii_hexdigit}
 use Rattle.std.specs.Fmt.{decimal}
+use Rattle.std.specs.Prelude.{codes, option_map, unwrap_or}
+use Rattle.std.proofs.Common.{◌++◌, ◌<◌, ◌==◌, ◌∙◌, ◌∷◌, ◌≡◌, ◌≤◌, [], ap, arith, Bool, cond}
+use Rattle.std.proofs.Common.{eqb, eqb-true, false, get_or, length, List, lit<, None, Option}
+use Rattle.std.proofs.Common.{refl, Some, subst, suc, sym, true, zero, ℕ}
+use Rattle.std.proofs.lemmas.Bool.Decides.{nat_tests}
+use Rattle.std.proofs.lemmas.Fmt.{decimal_digit, first_decimal}
 use Rattle.std.proofs.lemmas.List.{append-nil, nil_from_length}
 use Rattle.std.proofs.lemmas.Option.{cond_some, none-some, option_and_then_some, same_Some}
-use Rattle.psci_board.specs.Spelling.{TextLaws, IsNumber}
-use Rattle.psci_board.specs.ReadWords.{literal_at, number_at, spaced_at}
+use Rattle.psci_board.specs.Grammar.{Ends, hex, hex_at, hex_value, IsNumber, literal_at}
+use Rattle.psci_board.specs.Grammar.{number_at, spaced_at, TextLaws}
 use Rattle.psci_world_spec.specs.declared.event.Event.{Event}
-use Rattle.psci_world_spec.specs.declared.event.Event.TheVariants.{Call}
-use Rattle.psci_script.specs.declared.grammar.Line.TheVariants.{Blank, Event as Says}
-use Rattle.psci_script.specs.Line.{line_of, event_at, after_word, call_at, alone_at, numbered_at}
-use Rattle.psci_script.specs.Line.{register_at, optional_register_at}
-use Rattle.psci_script.specs.EventText.{EventText, RegisterText, register_text, register_value}
-use Rattle.psci_script.specs.EventText.{registers_text, event_text, value_at, event_of, Word}
-use Rattle.psci_script.specs.EventText.{word_text, word_event, AreRegisterTexts, IsEventText}
-use Rattle.psci_script.specs.EventText.{SpellsWhatItSays}
+use Rattle.psci_world_spec.specs.declared.event.Event.TheVariants.{Call, Enter}
+use Rattle.psci_script.specs.EventText.{after_word, alone_at, AreRegisterTexts, call_at}
+use Rattle.psci_script.specs.EventText.{event_at, event_of, event_text, EventText, IsEventText}
+use Rattle.psci_script.specs.EventText.{IsRegisterText, line_of, numbered_at}
+use Rattle.psci_script.specs.EventText.{optional_register_at, or_else, ReadsAsSpelled}
+use Rattle.psci_script.specs.EventText.{register_at, register_text, register_value}
+use Rattle.psci_script.specs.EventText.{registers_text, RegisterText, SpellsWhatItSays, value_at}
+use Rattle.psci_script.specs.EventText.{Word, word_event, word_text}
 use Rattle.psci_script.specs.EventText.EventText.{CallText, NumberText}
-use Rattle.psci_script.specs.EventText.Word.{EnterWord, WakeWord, ResetWord, DeliverWord, TakeWord}
-use Rattle.psci_script.proofs.Words.{IsRegister, register_takes}
+use Rattle.psci_script.specs.EventText.RegisterText.{Decimal, Hexadecimal}
+use Rattle.psci_script.specs.EventText.Word.{DeliverWord, EnterWord, ResetWord, TakeWord}
+use Rattle.psci_script.specs.EventText.Word.{WakeWord}
+use Rattle.psci_script.specs.declared.grammar.Line.TheVariants.{Blank, Event as Says}
+
+-- Words -------------------------------------------------------------------------------------------
+-- A register is read as it is spelled, where a space or nothing follows, and in no other way.
+
+-- a space comes next, or nothing
+abbrev pub IsEnd : List ℕ → Type 0
+IsEnd [] = Unit {0}
+IsEnd (b ∷ bs) = b ≡ 32
+
+ends_digits : (rest : List ℕ) → IsEnd rest → Ends is_ascii_digit rest
+ends_digits [] e = tt
+ends_digits (b ∷ bs) e = ap is_ascii_digit e
+
+ends_hexdigits : (rest : List ℕ) → IsEnd rest → Ends is_ascii_hexdigit rest
+ends_hexdigits [] e = tt
+ends_hexdigits (b ∷ bs) e = ap is_ascii_hexdigit e
+
+-- Numbers -------------------------------------------------------------------------------------
+
+pub number_again : (w : TextLaws) (n : ℕ) (rest : List ℕ) → IsNumber n → IsEnd rest
+    → number_at (decimal n ++ rest) ≡ Some (n, rest)
+number_again w n rest h e = w.numbers.again n rest h (ends_digits rest e)
+
+-- A decimal number is no hexadecimal one --------------------------------------------------------
+
+none_either : (t : Bool) (o : Option (List ℕ)) → o ≡ None → cond t o None ≡ None
+none_either true o e = e
+none_either false o e = refl
+
+not_x : (rest : List ℕ) → IsEnd rest → literal_at (120 ∷ []) rest ≡ None
+unfolding literal_at
+not_x [] e = refl
+not_x (b ∷ bs) e = rw e refl
+
+not_zero : (d : ℕ) → 48 < d → (d == 48) ≡ false
+not_zero d h = grind (arith, nat_tests)
+
+no_prefix : (ds rest : List ℕ) → (1 < length ds → 48 < get_or ds 0 0) → IsEnd rest
+    → literal_at (48 ∷ 120 ∷ []) (ds ++ rest) ≡ None
+unfolding literal_at
+no_prefix [] [] h e = refl
+no_prefix [] (b ∷ bs) h e = rw e refl
+no_prefix (d ∷ []) rest h e = grind (arith, nat_tests, none_either, not_x)
+no_prefix (d ∷ f ∷ fs) rest h e = grind (arith, nat_tests, not_zero)
+
+first_digit : (n : ℕ) → IsNumber n → 1 < length (decimal n) → 48 < get_or (decimal n) 0 0
+first_digit zero h l = grind (arith, nat_tests, decimal_digit, lit<)
+first_digit (suc n) h l = first_decimal (suc n) (omega arith) h
+
+no_hex : (n : ℕ) (rest : List ℕ) → IsNumber n → IsEnd rest → hex_at (decimal n ++ rest) ≡ None
+unfolding hex_at
+no_hex n rest h e = rw (no_prefix (decimal n) rest (first_digit n h) e) refl
+
+-- Registers -----------------------------------------------------------------------------------
+
+pub register_again : (w : TextLaws) (r : RegisterText) (rest : List ℕ) → IsRegisterText r
+    → IsEnd rest
+    → register_at (register_text r ++ rest) ≡ Some (register_value r, rest)
+unfolding register_at
+register_again w (Decimal n) rest h e = rw (no_hex n rest h e, number_again w n rest h e) refl
+register_again w (Hexadecimal ds) rest h e = grind (arith, nat_tests, ends_hexdigits)
+
+-- the register that was read, and its spelling
+pub record IsRegister (bytes : List ℕ) (x : ℕ × List ℕ) : Type 0 where
+  pub text : RegisterText
+  pub fits : IsRegisterText text
+  pub spelled : bytes ≡ register_text text ++ x.1
+  pub value : x.0 ≡ register_value text
+
+register_by : (w : TextLaws) (bytes : List ℕ) (x : ℕ × List ℕ) (o : Option (List ℕ × List ℕ))
+    → hex_at bytes ≡ o
+    → or_else (option_map hex_value o) (number_at bytes) ≡ Some x → IsRegister bytes x
+register_by w bytes x None e h =
+    let t = w.numbers.takes bytes x h in
+    record { text = Decimal x.0; fits = t.0; spelled = t.1; value = refl }
+register_by w bytes x (Some y) e h =
+    let t = w.hexadecimals.takes bytes y e in
+    let same = same_Some (hex_value y) x h in
+    record {
+      text = Hexadecimal y.0;
+      fits = t.0;
+      spelled = t.1 ∙ ap (λ (z : ℕ × List ℕ). hex y.0 ++ z.1) same;
+      value = sym (ap (λ (z : ℕ × List ℕ). z.0) same);
+    }
+
+pub register_takes : (w : TextLaws) (bytes : List ℕ) (x : ℕ × List ℕ) → register_at bytes ≡ Some x
+    → IsRegister bytes x
+unfolding register_at
+register_takes w bytes x e = register_by w bytes x (hex_at bytes) refl e
+
+-- Event lines -------------------------------------------------------------------------------------
 
 -- the bytes after so many registers that may be missing
 abbrev after : ℕ → List ℕ → List ℕ
@@ -210,3 +305,87 @@ pub line_takes : TextLaws → SpellsWhatItSays
 unfolding line_of
 line_takes w [] event e = absurd (cc)
 line_takes w (b ∷ bs) event e = grind (arith, nat_tests, event_takes, says_event, eqb)
+
+-- Event lines are read as they are spelled --------------------------------------------------------
+
+registers_end : (rs : List RegisterText) → IsEnd (registers_text rs)
+registers_end [] = tt
+registers_end (r ∷ rs) = refl
+
+spaced_again : (w : TextLaws) (r : RegisterText) (rs : List RegisterText) → IsRegisterText r
+    → spaced_at register_at (registers_text (r ∷ rs)) ≡ Some (register_value r, registers_text rs)
+unfolding spaced_at literal_at
+spaced_again w r rs h = register_again w r (registers_text rs) h (registers_end rs)
+
+optional_again : (w : TextLaws) (r : RegisterText) (rs : List RegisterText) → IsRegisterText r
+    → optional_register_at (registers_text (r ∷ rs)) ≡ (register_value r, registers_text rs)
+unfolding optional_register_at
+optional_again w r rs h = grind (arith, nat_tests, spaced_again)
+
+optional_none : optional_register_at [] ≡ (0, [])
+unfolding optional_register_at spaced_at literal_at
+optional_none = refl
+
+call_again : (w : TextLaws) (core : ℕ) (x0 : RegisterText) (rs : List RegisterText) → IsNumber core
+    → IsRegisterText x0 → AreRegisterTexts rs → length rs ≤ 3
+    → call_at (decimal core ++ registers_text (x0 ∷ rs)) ≡ Some (event_of (CallText core x0 rs))
+unfolding call_at
+call_again w core x0 [] c h a l =
+    rw (
+      number_again w core (registers_text (x0 ∷ [])) c refl,
+      spaced_again w x0 [] h,
+      optional_none,
+      optional_none,
+      optional_none,
+    ) refl
+call_again w core x0 (r ∷ []) c h a l =
+    rw (
+      number_again w core (registers_text (x0 ∷ r ∷ [])) c refl,
+      spaced_again w x0 (r ∷ []) h,
+      optional_again w r [] a.0,
+      optional_none,
+      optional_none,
+    ) refl
+call_again w core x0 (r ∷ s ∷ []) c h a l =
+    rw (
+      number_again w core (registers_text (x0 ∷ r ∷ s ∷ [])) c refl,
+      spaced_again w x0 (r ∷ s ∷ []) h,
+      optional_again w r (s ∷ []) a.0,
+      optional_again w s [] a.1.0,
+      optional_none,
+    ) refl
+call_again w core x0 (r ∷ s ∷ t ∷ []) c h a l =
+    rw (
+      number_again w core (registers_text (x0 ∷ r ∷ s ∷ t ∷ [])) c refl,
+      spaced_again w x0 (r ∷ s ∷ t ∷ []) h,
+      optional_again w r (s ∷ t ∷ []) a.0,
+      optional_again w s (t ∷ []) a.1.0,
+      optional_again w t [] a.1.1.0,
+    ) refl
+call_again w core x0 (r ∷ s ∷ t ∷ u ∷ rs) c h a l = absurd (omega (arith, l))
+
+alone_again : (w : TextLaws) (n : ℕ) → IsNumber n → alone_at (decimal n) ≡ Some n
+unfolding alone_at
+alone_again w n c =
+    let number : number_at (decimal n) ≡ Some (n, []) =
+    subst (λ (ds : List ℕ). number_at ds ≡ Some (n, [])) (append-nil (decimal n))
+    (number_again w n [] c tt) in
+    rw number refl
+
+word_again : (w : TextLaws) (word : Word) (n : ℕ) → IsNumber n
+    → event_at (word_text word ++ decimal n) ≡ Some (word_event word n)
+unfolding event_at literal_at
+word_again w EnterWord n c = ap (option_map Enter) (alone_again w n c)
+word_again w word n c = ap (option_map (word_event word)) (alone_again w n c)
+
+-- no event line is empty or a comment
+word_line : (word : Word) (n : ℕ) → line_of (word_text word ++ decimal n)
+    ≡ option_map Says (event_at (word_text word ++ decimal n))
+unfolding line_of
+word_line EnterWord n = refl
+word_line word n = refl
+
+pub line_again : TextLaws → ReadsAsSpelled
+unfolding line_of event_at literal_at
+line_again w (NumberText word n) h = grind (arith, nat_tests, word_line, word_again)
+line_again w (CallText core x0 rs) h = grind (arith, nat_tests, call_again)

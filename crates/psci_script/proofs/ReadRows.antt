@@ -2,10 +2,9 @@
 use Rattle.std.proofs.Common.{◌≡◌, Some, arith}
 use Rattle.std.specs.Prelude.{codes}
 use Rattle.std.specs.Fmt.{digits}
-use Rattle.psci_script.specs.Line.{line_of}
+use Rattle.psci_script.specs.EventText.{line_of, ReadsAsKept}
 use Rattle.psci_script.specs.declared.grammar.Line.TheVariants.{Event as Says}
 use Rattle.psci_world_spec.specs.declared.event.Event.TheVariants.{Call}
-use Rattle.psci_script.specs.Kept.{ReadsAsKept}
 
 -- a call by core 2, and events of the largest numbers, by the lines that they are kept in
 call_is_read : ReadsAsKept → line_of (codes "call 2 0xc4000003 0x101 0x40001000 0x7")

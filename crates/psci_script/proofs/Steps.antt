@@ -1,31 +1,28 @@
 -- One step of a script, by what was answered.
-use Rattle.std.proofs.Common.{◌≡◌, ℕ, ◌+◌, ◌<◌, ◌≤◌, List, [], ◌∷◌, ◌++◌, length, take, refl, sym}
-use Rattle.std.proofs.Common.{ap, arith, subst, Option, Some, None, Result, Ok, Err, ◌∙◌, IsErr}
-use Rattle.std.proofs.Common.{IsErrAnd, IfErr, inl, inr, false}
+use Rattle.std.proofs.Common.{◌++◌, ◌+◌, ◌<◌, ◌∙◌, ◌∷◌, ◌≡◌, ◌≤◌, [], ap, arith, Err, false}
+use Rattle.std.proofs.Common.{IfErr, inl, inr, IsErr, IsErrAnd, length, List, None, Ok, Option}
+use Rattle.std.proofs.Common.{refl, Result, Some, subst, sym, take, ℕ}
 use Rattle.std.proofs.lemmas.List.{length-take-le}
 use Rattle.psci_world_spec.specs.psci_board.Board.{BoardValue}
 use Rattle.psci_script.specs.declared.fault.Replayed.{Replayed}
 use Rattle.psci_script.specs.declared.fault.ScriptFault.{ScriptFault}
 use Rattle.psci_script.specs.declared.fault.ReplayFault.{ReplayFault}
-use Rattle.psci_script.specs.declared.fault.ReplayFault.TheVariants.{Script, Board, Read, Write}
-use Rattle.psci_script.specs.declared.fault.ReplayFault.TheVariants.{Memory}
+use Rattle.psci_script.specs.declared.fault.ReplayFault.TheVariants.{Board, Memory, Read, Script}
+use Rattle.psci_script.specs.declared.fault.ReplayFault.TheVariants.{Write}
 use Rattle.psci_script.specs.declared.fault.ScriptFault.TheVariants.{Line}
 use Rattle.psci_script.specs.declared.grammar.Line.{Line as LineSays}
 use Rattle.psci_script.specs.declared.grammar.Line.TheVariants.{Blank, Event as Says}
-use Rattle.psci_script.specs.declared.lines.Extent.{Extent}
-use Rattle.psci_script.specs.Line.{line_of}
-use Rattle.psci_script.specs.Answered.{Answered}
-use Rattle.psci_script.specs.Block.{ReadAhead}
-use Rattle.psci_script.specs.Progress.{Ahead, Progress, progress, IsLine, IsLineFront, FailsLine}
-use Rattle.psci_script.specs.Progress.{FindsLine, first_progress}
-use Rattle.psci_script.specs.Run.{BoardRead, IsNoDevice, IsWithinBlock, LineRefused}
-use Rattle.psci_script.specs.ScriptRun.{ScriptRun, with_record}
-use Rattle.psci_script.specs.Told.{Ended, EndsBy, Goes, IsUnderWay, LineTold, Runs, remaining}
-use Rattle.psci_script.proofs.Accounts.{account_is, blank_remains, event_remains, unread_remains}
-use Rattle.psci_script.proofs.Accounts.{by_board, by_first}
-use Rattle.psci_script.proofs.Ends.{ends_faulty, ends_line, stopped, failed}
-use Rattle.psci_script.proofs.Known.{appends_none, consumes_none}
-use Rattle.psci_script.proofs.Taking.{goes_ahead, goes_line, skipped}
+use Rattle.psci_script.specs.declared.transfer.Extent.{Extent}
+use Rattle.psci_script.specs.EventText.{Answered, line_of, ReadAhead}
+use Rattle.psci_script.specs.Progress.{Ahead, BoardRead, FailsLine, FindsLine, first_progress}
+use Rattle.psci_script.specs.Progress.{IsLine, IsLineFront, IsNoDevice, IsWithinBlock}
+use Rattle.psci_script.specs.Progress.{LineRefused, Progress, progress}
+use Rattle.psci_script.specs.Told.{Ended, EndsBy, Goes, IsUnderWay, LineTold, remaining, Runs}
+use Rattle.psci_script.specs.Told.{ScriptRun, with_record}
+use Rattle.psci_script.proofs.Finish.{account_is, appends_none, blank_remains, by_board}
+use Rattle.psci_script.proofs.Finish.{by_first, consumes_none, event_remains, unread_remains}
+use Rattle.psci_script.proofs.Ends.{ends_faulty, ends_line, failed, goes_ahead, goes_line}
+use Rattle.psci_script.proofs.Ends.{skipped, stopped}
 
 pub if_err_so : {X : Type 0} (r : Result X ReplayFault) (e : ReplayFault) (P : ReplayFault → Type 0)
     → IsErr r × IsErrAnd r (λ f. f ≡ e) → P e → IfErr r P

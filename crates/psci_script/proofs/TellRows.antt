@@ -1,7 +1,7 @@
 -- Worked examples: what is told of a run, line by line and in all; and for each clause something
 -- that breaks it.
-use Rattle.std.proofs.Common.{◌≡◌, ℕ, ◌<◌, List, [], ◌∷◌, ◌++◌, length}
-use Rattle.std.proofs.Common.{ap, arith, Option, None, Some, Ok, Err, Result, refl}
+use Rattle.std.proofs.Common.{◌++◌, ◌<◌, ◌∷◌, ◌≡◌, [], ap, arith, Err, length, List, None, Ok}
+use Rattle.std.proofs.Common.{Option, refl, Result, Some, ℕ}
 use Rattle.std.specs.Prelude.{codes}
 use Rattle.psci_world_spec.specs.psci_board.Board.{BoardValue}
 use Rattle.psci_world_spec.specs.declared.event.Event.TheVariants.{Deliver}
@@ -10,13 +10,11 @@ use Rattle.psci_script.specs.declared.fault.ReplayFault.{ReplayFault}
 use Rattle.psci_script.specs.declared.fault.ReplayFault.TheVariants.{Script, Write}
 use Rattle.psci_script.specs.declared.fault.ScriptFault.TheVariants as faults
 use Rattle.psci_script.specs.declared.grammar.Line.TheVariants.{Blank, Event as Says}
-use Rattle.psci_script.specs.Lines.{lines}
-use Rattle.psci_script.specs.Answered.{Answered}
-use Rattle.psci_script.specs.Progress.{Progress}
-use Rattle.psci_script.specs.Run.{Follows}
-use Rattle.psci_script.specs.ScriptRun.{GoesOn, ScriptRun, events_of, run_of, with_record}
-use Rattle.psci_script.specs.Told.{EventTold, IsUnderWay, LineTold, Tells, account, remaining}
-use Rattle.psci_script.proofs.Scripts.{answering, board, text}
+use Rattle.psci_script.specs.EventText.{Answered, lines}
+use Rattle.psci_script.specs.Progress.{Follows, Progress}
+use Rattle.psci_script.specs.Told.{account, events_of, EventTold, GoesOn, IsUnderWay, LineTold}
+use Rattle.psci_script.specs.Told.{remaining, run_of, ScriptRun, Tells, with_record}
+use Rattle.psci_script.proofs.Cutting.{answering, board, text}
 
 -- a byte is told for each event, and nothing before there is a board
 abbrev tally : Option ScriptRun → List ℕ → Type 0

@@ -1,9 +1,9 @@
 -- Worked examples of events whose numbers have 64 bits, and of events that have a larger one.
 use Rattle.std.proofs.Common.{◌<◌, ℕ, arith}
 use Rattle.psci_world_spec.specs.declared.event.Event.{Event}
-use Rattle.psci_world_spec.specs.declared.event.Event.TheVariants.{Call, Enter, Wake, Reset}
-use Rattle.psci_world_spec.specs.declared.event.Event.TheVariants.{Deliver, Take}
-use Rattle.psci_script.specs.Kept.{HasWords}
+use Rattle.psci_world_spec.specs.declared.event.Event.TheVariants.{Call, Deliver, Enter, Reset}
+use Rattle.psci_world_spec.specs.declared.event.Event.TheVariants.{Take, Wake}
+use Rattle.psci_script.specs.EventText.{HasWords}
 
 -- the largest number, and the one after it
 abbrev largest : ℕ

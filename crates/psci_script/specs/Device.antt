@@ -1,10 +1,10 @@
 -- What one read or write leaves, by its answer.
-use Rattle.std.specs.Prelude.{◌≡◌, ℕ, ◌+◌, ◌<◌, ◌≤◌, ◌||◌, ◌&&◌, min, List, length, take, Bool}
-use Rattle.std.specs.Prelude.{true, ◌⊎◌, nat_lt, ◌==◌, Option, ⊤}
+use Rattle.std.specs.Prelude.{◌&&◌, ◌+◌, ◌<◌, ◌==◌, ◌||◌, ◌≡◌, ◌≤◌, ◌⊎◌, Bool, length, List, min}
+use Rattle.std.specs.Prelude.{nat_lt, Option, take, true, ℕ, ⊤}
 use Rattle.std.specs.Io.KnownBytes.{Appends, Consumes, Keeps, IsAtEnd}
 use Rattle.std.specs.declared.io.ErrorKind.{ErrorKind}
 use Rattle.std.specs.declared.io.ErrorKind.TheVariants as kinds
-use Rattle.psci_script.specs.Limits.{most_interruptions}
+use Rattle.psci_script.specs.EventText.{most_interruptions}
 use Rattle.psci_script.specs.declared.device.Io.{Io}
 use Rattle.psci_script.specs.declared.device.Io.TheVariants.{Bytes, Interrupted, Failed}
 

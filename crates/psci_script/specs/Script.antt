@@ -1,8 +1,8 @@
 -- What the bytes of a script are answered, line by line, up to the first fault.
-use Rattle.std.specs.Prelude.{ℕ, ◌+◌, List, [], ◌∷◌, ◌++◌, length, nat_lt, if◌then◌else◌, Option}
-use Rattle.std.specs.Prelude.{None, Some, Result, Ok, Err, codes}
+use Rattle.std.specs.Prelude.{◌++◌, ◌+◌, ◌∷◌, [], codes, Err, if◌then◌else◌, length, List}
+use Rattle.std.specs.Prelude.{nat_lt, None, Ok, Option, Result, Some, ℕ}
 use Rattle.psci_world_spec.specs.psci_board.Board.{BoardValue}
-use Rattle.psci_board.specs.ReadWords.{literal_at}
+use Rattle.psci_board.specs.Grammar.{literal_at}
 use Rattle.psci_board.specs.Verdict.{board_of}
 use Rattle.psci_board.specs.declared.fault.BoardFault.{BoardFault}
 use Rattle.psci_world_spec.specs.declared.said.Record.{Record}
@@ -11,12 +11,11 @@ use Rattle.psci_script.specs.declared.grammar.Line.{Line as LineSays}
 use Rattle.psci_script.specs.declared.grammar.Line.TheVariants.{Blank, Event as Says}
 use Rattle.psci_script.specs.declared.fault.Replayed.{Replayed}
 use Rattle.psci_script.specs.declared.fault.ScriptFault.{ScriptFault}
-use Rattle.psci_script.specs.declared.fault.ScriptFault.TheVariants.{NoBoard, Line, Long, TooMany}
+use Rattle.psci_script.specs.declared.fault.ScriptFault.TheVariants.{NoBoard, Line, Long}
+use Rattle.psci_script.specs.declared.fault.ScriptFault.TheVariants.{TooMany}
 use Rattle.psci_script.specs.declared.fault.ReplayFault.{ReplayFault}
 use Rattle.psci_script.specs.declared.fault.ReplayFault.TheVariants.{Script, Board}
-use Rattle.psci_script.specs.Limits.{longest_line, most_lines}
-use Rattle.psci_script.specs.Line.{line_of}
-use Rattle.psci_script.specs.Lines.{lines}
+use Rattle.psci_script.specs.EventText.{line_of, lines, longest_line, most_lines}
 use Rattle.psci_script.specs.Text.{answer_line}
 
 -- what a script is answered

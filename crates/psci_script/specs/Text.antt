@@ -1,22 +1,20 @@
 -- The answer line of an event.
-use Rattle.std.specs.Prelude.{ℕ, false, List, ◌++◌, ◌∷◌, [], Option, Some, None}
-use Rattle.std.specs.Prelude.{codes, flat_map}
+use Rattle.std.specs.Prelude.{◌++◌, ◌∷◌, [], codes, false, flat_map, List, None, Option, Some, ℕ}
 use Rattle.std.specs.Fmt.{decimal, signed_decimal, digits}
 use Rattle.psci_world_spec.specs.psci_fw_spec.declared.outcome.Act.{Act}
-use Rattle.psci_world_spec.specs.psci_fw_spec.declared.outcome.Act.TheVariants.{Return, Stop, Enter}
-use Rattle.psci_world_spec.specs.psci_fw_spec.declared.outcome.Act.TheVariants.{Resume}
+use Rattle.psci_world_spec.specs.psci_fw_spec.declared.outcome.Act.TheVariants.{Enter, Resume}
+use Rattle.psci_world_spec.specs.psci_fw_spec.declared.outcome.Act.TheVariants.{Return, Stop}
 use Rattle.psci_world_spec.specs.psci_messages.declared.part.Part.{Part}
 use Rattle.psci_world_spec.specs.psci_messages.declared.kind.Kind.{Kind}
-use Rattle.psci_world_spec.specs.psci_messages.declared.kind.Kind.TheVariants.{Down, Start, Off}
-use Rattle.psci_world_spec.specs.psci_messages.declared.kind.Kind.TheVariants.{Reset}
+use Rattle.psci_world_spec.specs.psci_messages.declared.kind.Kind.TheVariants.{Down, Off, Reset}
+use Rattle.psci_world_spec.specs.psci_messages.declared.kind.Kind.TheVariants.{Start}
 use Rattle.psci_world_spec.specs.psci_messages.declared.taken.Taken.{Taken}
 use Rattle.psci_world_spec.specs.psci_messages.declared.taken.Taken.TheVariants.{Used, Old}
-use Rattle.psci_world_spec.specs.psci_messages.Message.{AckValue}
-use Rattle.psci_world_spec.specs.psci_messages.StaleText.{stale_text}
+use Rattle.psci_world_spec.specs.psci_messages.Message.{AckValue, stale_text}
 use Rattle.psci_world_spec.specs.declared.said.Sent.{Sent}
 use Rattle.psci_world_spec.specs.declared.said.Said.{Said}
-use Rattle.psci_world_spec.specs.declared.said.Said.TheVariants.{Fw, Kick, Acked, Ignored, Absent}
-use Rattle.psci_world_spec.specs.declared.said.Said.TheVariants.{Taken as Took}
+use Rattle.psci_world_spec.specs.declared.said.Said.TheVariants.{Absent, Acked, Fw, Ignored}
+use Rattle.psci_world_spec.specs.declared.said.Said.TheVariants.{Kick, Taken as Took}
 
 -- an address or a context id: lower-case hexadecimal digits without leading zeros
 abbrev pub hexadecimal : ℕ → List ℕ

@@ -1,13 +1,19 @@
 //! The answer line of an event, written from its end on.
 
-ghost use Rattle.std.specs.Prelude.{◌≡◌, ◌+◌, ◌≤◌, ◌++◌, ◌∷◌, [], codes, drop, length, flat_map};
-ghost use Rattle.std.specs.Fmt.{decimal, signed_decimal};
-ghost use Rattle.psci_script.specs.Text.{ack_text, act_text, answer_line, kind_text, part_text};
-ghost use Rattle.psci_script.specs.Text.{hexadecimal, message_text, parts_text, said_text};
-ghost use Rattle.psci_script.specs.Text.{sent_text, taken_text};
+ghost use Rattle.std.specs.Fmt.{decimal, digit_glyph, digits, signed_decimal};
+ghost use Rattle.std.specs.Prelude.{◌++◌, ◌+◌, ◌<◌, ◌∷◌, ◌≡◌, ◌≤◌, [], codes, drop, false};
+ghost use Rattle.std.specs.Prelude.{flat_map, length};
+ghost use Rattle.psci_script.specs.EventText.{longest_line};
+ghost use Rattle.psci_script.specs.Progress.{BoardRead};
+ghost use Rattle.psci_script.specs.Text.{ack_text, act_text, answer_line, hexadecimal, kind_text};
+ghost use Rattle.psci_script.specs.Text.{message_text, part_text, parts_text, said_text, sent_text};
+ghost use Rattle.psci_script.specs.Text.{taken_text};
 
-use crate::digits::{write_code, write_hexadecimal, write_number, write_word};
-use psci_world_spec::{Ack, Act, Kind, Part, Said, Sent, Taken};
+use crate::fault::{ReplayFault, ScriptFault};
+use itoa::write_digits;
+use psci_board::{BoardFault, literal};
+use psci_world_spec::{Ack, Act, Board, Kind, Part, Said, Sent, Taken};
+use std::alloc::Global;
 
 /// How many bytes an answer line has at most, were every number as wide as its type: those of an
 /// outcome with a message of four parts.
@@ -183,4 +189,109 @@ fn write_part(part: &Part, room: &mut [u8], end: usize) -> usize
     let start = write_word(b":", room, start);
     let start = write_number(u64::from(part.level), room, start);
     write_word(b" ", room, start)
+}
+
+// The first line of a script, which says its board.
+
+/// The board of a first line.
+pub fn read_board(alloc: Global, line: &[u8]) -> Result<Board, ReplayFault>
+    requires { length line.now ≤ longest_line }
+    ensures { BoardRead result line.now }
+{
+    let Some(text) = literal(line, b"board ") else {
+        return Err(ScriptFault::NoBoard.at(1));
+    };
+    match Board::read_bytes(alloc, text) {
+        Ok(board) => Ok(board),
+        Err(BoardFault::Memory) => Err(ReplayFault::Memory),
+        Err(fault) => Err(ReplayFault::Board(fault)),
+    }
+}
+
+// Words and numbers, written before what stands behind them.
+
+/// Writes a word before what begins here; answers where it begins.
+// In place, so that a word is written as a few numbers.
+#[inline(always)]
+pub fn write_word(word: &[u8], room: &mut [u8], end: usize) -> usize
+    requires least { length word.now ≤ end }
+    requires within { end ≤ length room.old }
+    ensures start { result + length word.now ≡ end }
+    ensures written { drop result room.new ≡ word.now ++ drop end room.old }
+{
+    let start = end - word.len();
+    room[start..end].copy_from_slice(word);
+    start
+}
+
+/// Writes a number in decimal.
+pub fn write_number(number: u64, room: &mut [u8], end: usize) -> usize
+    requires least { 20 ≤ end }
+    requires within { end ≤ length room.old }
+    ensures most { end ≤ result + 20 }
+    ensures within { result ≤ end }
+    ensures written { drop result room.new ≡ decimal number ++ drop end room.old }
+{
+    write_digits(number, room, end)
+}
+
+/// Writes a signed number in decimal.
+pub fn write_code(code: i32, room: &mut [u8], end: usize) -> usize
+    requires least { 21 ≤ end }
+    requires within { end ≤ length room.old }
+    ensures most { end ≤ result + 21 }
+    ensures within { result ≤ end }
+    ensures written { drop result room.new ≡ signed_decimal code ++ drop end room.old }
+{
+    let start = write_number(u64::from(code.unsigned_abs()), room, end);
+    if code >= 0 {
+        return start;
+    }
+    write_word(b"-", room, start)
+}
+
+/// Writes a number in hexadecimal, lower-case and after `0x`.
+pub fn write_hexadecimal(number: u64, room: &mut [u8], end: usize) -> usize
+    requires least { 18 ≤ end }
+    requires within { end ≤ length room.old }
+    ensures most { end ≤ result + 18 }
+    ensures within { result ≤ end }
+    ensures written { drop result room.new ≡ hexadecimal number ++ drop end room.old }
+{
+    let start = write_hexadecimal_digits(number, room, end);
+    write_word(b"0x", room, start)
+}
+
+/// Writes the hexadecimal digits of a number.
+fn write_hexadecimal_digits(number: u64, room: &mut [u8], end: usize) -> usize
+    requires least { 16 ≤ end }
+    requires within { end ≤ length room.old }
+    ensures most { end ≤ result + 16 }
+    ensures within { result ≤ end }
+    ensures written { drop result room.new ≡ digits 16 false number ++ drop end room.old }
+{
+    let mut left = 16;
+    let mut rest = number;
+    while left > 0 {
+        left -= 1;
+        let start = end - 16 + left;
+        room[start] = digit(rest % 16);
+        rest /= 16;
+        if rest == 0 {
+            return start;
+        }
+    }
+    unreachable!()
+}
+
+/// The hexadecimal digit of a number below 16.
+fn digit(number: u64) -> u8
+    ensures { number < 16 → result ≡ digit_glyph false number }
+{
+    let low = (number % 16) as u8;
+    if low < 10 {
+        b'0' + low
+    } else {
+        b'a' + (low - 10)
+    }
 }

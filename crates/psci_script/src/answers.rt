@@ -1,7 +1,7 @@
 //! Answer lines that were not written yet.
 
-ghost use Rattle.std.specs.Prelude.{◌≡◌, ℕ, ◌+◌, ◌-◌, ◌^◌, ◌<◌, [], length, ◌++◌, take, IfOk, OnOk};
-ghost use Rattle.std.specs.Prelude.{OnErr, IfErr};
+ghost use Rattle.std.specs.Prelude.{◌++◌, ◌+◌, ◌-◌, ◌<◌, ◌^◌, ◌≡◌, [], IfErr, IfOk, length, OnErr};
+ghost use Rattle.std.specs.Prelude.{OnOk, take, ℕ};
 ghost use Rattle.std.specs.Io.KnownBytes.{Appends};
 ghost use Rattle.psci_script.specs.declared.fault.ReplayFault.TheVariants.{Write};
 ghost use Rattle.psci_script.specs.Device.{GaveUp};
@@ -28,7 +28,7 @@ pub struct Answers {
 }
 
 impl Model for Answers {
-    ghost use Rattle.psci_script.specs.Answered.{Answered};
+    ghost use Rattle.psci_script.specs.EventText.{Answered};
 
     ghost Value = { Answered };
 

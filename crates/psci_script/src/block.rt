@@ -1,17 +1,15 @@
 //! The bytes that were read ahead.
 
-ghost use Rattle.std.specs.Prelude.{◌≡◌, [], ◌<◌, ◌≤◌, length, drop, false, true, IfOk, OnOk};
-ghost use Rattle.std.specs.Prelude.{OnErr, IfErr};
+ghost use Rattle.std.specs.Prelude.{◌<◌, ◌≡◌, ◌≤◌, [], drop, false, IfErr, IfOk, length, OnErr};
+ghost use Rattle.std.specs.Prelude.{OnOk, true};
 ghost use Rattle.std.specs.Io.KnownBytes.{Keeps};
 ghost use Rattle.psci_script.specs.declared.fault.ReplayFault.TheVariants.{Read};
-ghost use Rattle.psci_script.specs.Block.{Refills};
+ghost use Rattle.psci_script.specs.EventText.{block_room, Refills};
 ghost use Rattle.psci_script.specs.Device.{GaveUp};
-ghost use Rattle.psci_script.specs.Limits.{block_room};
 
 use crate::device::Source;
 use crate::fault::ReplayFault;
-use crate::limits::BLOCK_ROOM;
-use crate::transfer::read_some;
+use crate::transfer::{BLOCK_ROOM, read_some};
 use std::alloc::{AllocError, Global};
 use std::marker::Model;
 
@@ -26,8 +24,7 @@ pub struct Block {
 
 impl Model for Block {
     ghost use Rattle.std.specs.Prelude.{◌≡◌, ◌≤◌, length, take, drop};
-    ghost use Rattle.psci_script.specs.Block.{ReadAhead};
-    ghost use Rattle.psci_script.specs.Limits.{block_room};
+    ghost use Rattle.psci_script.specs.EventText.{block_room, ReadAhead};
 
     ghost Value = { ReadAhead };
 

@@ -1,9 +1,9 @@
 //! The grammar of a line after the first.
 
 ghost use Rattle.std.specs.Prelude.{◌≡◌, None, codes, option_map};
-ghost use Rattle.psci_board.specs.ReadWords.{literal_at, spaced_at};
-ghost use Rattle.psci_script.specs.Line.{register_at, optional_register_at, call_at, alone_at};
-ghost use Rattle.psci_script.specs.Line.{event_at, line_of};
+ghost use Rattle.psci_board.specs.Grammar.{literal_at, spaced_at};
+ghost use Rattle.psci_script.specs.EventText.{alone_at, call_at, event_at, line_of};
+ghost use Rattle.psci_script.specs.EventText.{optional_register_at, register_at};
 
 use psci_board::{hex, literal, number};
 use psci_world_spec::{Event, Regs};
@@ -20,7 +20,7 @@ pub enum Line {
 /// The value of a register at the front, decimal or hexadecimal, and the text after it.
 // In place, as is what calls it.
 #[inline(always)]
-#[tactic(auto, unfolding(crate::specs::Line::register_at))]
+#[tactic(auto, unfolding(crate::specs::EventText::register_at))]
 fn register(text: &[u8]) -> Option<(u64, &[u8])>
     ensures { option_map (λ x. (x.0, x.1.now)) result ≡ register_at text.now }
 {
@@ -30,7 +30,7 @@ fn register(text: &[u8]) -> Option<(u64, &[u8])>
 /// The register after a space, and the text after it.
 // In place, since a call would write its four words to memory, also where no register is left.
 #[inline(always)]
-#[tactic(auto, unfolding(psci_board::specs::ReadWords::spaced_at))]
+#[tactic(auto, unfolding(psci_board::specs::Grammar::spaced_at))]
 fn spaced_register(text: &[u8]) -> Option<(u64, &[u8])>
     ensures { option_map (λ x. (x.0, x.1.now)) result ≡ spaced_at register_at text.now }
 {
@@ -40,7 +40,7 @@ fn spaced_register(text: &[u8]) -> Option<(u64, &[u8])>
 /// The register after a space and the text after it, or 0 where there is none.
 // In place, as the one before.
 #[inline(always)]
-#[tactic(auto, unfolding(crate::specs::Line::optional_register_at))]
+#[tactic(auto, unfolding(crate::specs::EventText::optional_register_at))]
 fn optional_register(text: &[u8]) -> (u64, &[u8])
     ensures { (result.0, result.1.now) ≡ optional_register_at text.now }
 {
@@ -51,7 +51,7 @@ fn optional_register(text: &[u8]) -> (u64, &[u8])
 }
 
 /// The call after its first word.
-#[tactic(auto, unfolding(crate::specs::Line::call_at))]
+#[tactic(auto, unfolding(crate::specs::EventText::call_at))]
 fn call(text: &[u8]) -> Option<Event>
     ensures { result ≡ call_at text.now }
 {
@@ -65,7 +65,7 @@ fn call(text: &[u8]) -> Option<Event>
 }
 
 /// The number that stands alone.
-#[tactic(auto, unfolding(crate::specs::Line::alone_at))]
+#[tactic(auto, unfolding(crate::specs::EventText::alone_at))]
 fn alone(text: &[u8]) -> Option<u64>
     ensures { result ≡ alone_at text.now }
 {
@@ -74,7 +74,7 @@ fn alone(text: &[u8]) -> Option<u64>
 }
 
 /// The event, by its first word.
-#[tactic(auto, unfolding(crate::specs::Line::event_at))]
+#[tactic(auto, unfolding(crate::specs::EventText::event_at))]
 fn event(text: &[u8]) -> Option<Event>
     ensures { result ≡ event_at text.now }
 {
@@ -85,7 +85,7 @@ fn event(text: &[u8]) -> Option<Event>
 }
 
 /// The event that is no call, by its first word.
-#[tactic(auto, unfolding(crate::specs::Line::event_at))]
+#[tactic(auto, unfolding(crate::specs::EventText::event_at))]
 fn numbered_event(text: &[u8]) -> Option<Event>
     requires { literal_at (codes "call ") text.now ≡ None }
     ensures { result ≡ event_at text.now }
@@ -106,7 +106,7 @@ fn numbered_event(text: &[u8]) -> Option<Event>
 }
 
 /// What the line says, or none where it is outside the grammar.
-#[tactic(auto, unfolding(crate::specs::Line::line_of))]
+#[tactic(auto, unfolding(crate::specs::EventText::line_of))]
 pub fn read_line(text: &[u8]) -> Option<Line>
     ensures { result ≡ line_of text.now }
 {

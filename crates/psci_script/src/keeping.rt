@@ -5,7 +5,7 @@
 
 ghost use Rattle.std.specs.Prelude.{OnOk};
 ghost use Rattle.std.specs.Io.KnownBytes.{Appends};
-ghost use Rattle.psci_script.specs.Kept.{script_text};
+ghost use Rattle.psci_script.specs.EventText.{script_text};
 
 use psci_world_spec::{Event, Record, Regs};
 use std::fmt;
@@ -30,7 +30,7 @@ pub fn write_script<W: Write>(to: &mut W, board: &str, records: &[Record]) -> io
 
 impl fmt::Display for EventText<'_> {
     ghost use Rattle.std.specs.Prelude.{Some};
-    ghost use Rattle.psci_script.specs.Kept.{event_line};
+    ghost use Rattle.psci_script.specs.EventText.{event_line};
 
     ghost output = { λ text. Some (event_line text.0.now) };
 

@@ -1,7 +1,6 @@
 //! What holds of the definitions alone.
 
-ghost use Rattle.psci_script.specs.EventText.{ReadsAsSpelled, SpellsWhatItSays};
-ghost use Rattle.psci_script.specs.Kept.{ReadsAsKept};
+ghost use Rattle.psci_script.specs.EventText.{ReadsAsKept, ReadsAsSpelled, SpellsWhatItSays};
 
 use psci_board::law_text;
 

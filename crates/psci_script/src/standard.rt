@@ -5,7 +5,7 @@ ghost use Rattle.std.specs.IoError.{error_kind};
 ghost use Rattle.psci_script.specs.Device.{Stops};
 
 use crate::device::{Io, Sink, Source};
-use crate::limits::MOST_INTERRUPTIONS;
+use crate::transfer::MOST_INTERRUPTIONS;
 use std::io::{Error, ErrorKind, Read, Write};
 
 /// A reader or a writer as a device.

@@ -1,11 +1,10 @@
 //! Who makes the events of a script happen, and tells what came of them.
 
-ghost use Rattle.std.specs.Prelude.{◌≡◌, ◌^◌, ◌-◌, ◌<◌, ◌≤◌, ◌+◌, [], ◌++◌, List, ℕ, Option, None};
-ghost use Rattle.std.specs.Prelude.{Some, length, IfOk, OnErr, OnOk};
-ghost use Rattle.psci_script.specs.Line.{line_of};
+ghost use Rattle.std.specs.Prelude.{◌++◌, ◌+◌, ◌-◌, ◌<◌, ◌^◌, ◌≡◌, ◌≤◌, [], IfOk, length, List};
+ghost use Rattle.std.specs.Prelude.{None, OnErr, OnOk, Option, Some, ℕ};
+ghost use Rattle.psci_script.specs.EventText.{line_of};
 ghost use Rattle.psci_script.specs.declared.grammar.Line.TheVariants.{Event as Says};
-ghost use Rattle.psci_script.specs.ScriptRun.{ScriptRun, with_record};
-ghost use Rattle.psci_script.specs.Told.{EventTold};
+ghost use Rattle.psci_script.specs.Told.{EventTold, ScriptRun, with_record};
 
 use crate::answers::Answers;
 use psci_world_spec::{Board, Event, Memory};

@@ -1,12 +1,10 @@
 -- Worked examples of how a call through a pass was answered or refused, and of a book that is full.
-use Rattle.std.proofs.Common.{◌≡◌, inl, inr, ℕ, List, [], ◌∷◌, length, pos, false, refl, ap, arith}
-use Rattle.std.proofs.Common.{None, Some, true}
+use Rattle.std.proofs.Common.{◌∷◌, [], arith, false, List, None, pos}
+use Rattle.std.proofs.Common.{refl, Some, true, ℕ}
 use Rattle.psci_fw.specs.psci_board.Board.{core_of}
-use Rattle.psci_fw.specs.psci_fw_spec.After.{after}
-use Rattle.psci_fw.specs.psci_fw_spec.Answer.{answer}
-use Rattle.psci_fw.specs.psci_fw_spec.Calls.{outcome_of}
-use Rattle.psci_fw.specs.psci_fw_spec.CpuOn.{target_of}
-use Rattle.psci_fw.specs.psci_fw_spec.Entering.{enter_outcome}
+use Rattle.psci_fw.specs.psci_fw_spec.Effects.{after}
+use Rattle.psci_fw.specs.psci_fw_spec.Answer.{answer, enter_outcome, outcome_of}
+use Rattle.psci_fw.specs.psci_fw_spec.PowerCalls.{target_of}
 use Rattle.psci_fw.specs.psci_fw_spec.History.{values_of}
 use Rattle.psci_fw.specs.psci_fw_spec.Statuses.{statuses}
 use Rattle.psci_fw.specs.psci_fw_spec.declared.call.FwCall.{FwCall}
@@ -21,17 +19,12 @@ use Rattle.psci_messages.specs.declared.start.Cause.TheVariants.{Boot}
 use Rattle.psci_messages.specs.declared.taken.Taken.TheVariants as takens
 use Rattle.psci_messages.specs.Outstanding.{changes_since, last_message, outstanding}
 use Rattle.psci_status.specs.Lists.{Item, Within}
-use Rattle.psci_shared.specs.Entries.{FwEntry, FwItem}
-use Rattle.psci_shared.specs.Answered.{IsAnsweredAfter, IsAnsweredFault, IsFull}
-use Rattle.psci_shared.specs.Books.{entry, history_of, BookView, IsTold}
-use Rattle.psci_shared.specs.Passes.{PassView}
-use Rattle.psci_shared.specs.Views.{item, told}
-use Rattle.psci_shared.specs.Writing.{AllLast, Stand}
-use Rattle.psci_shared.proofs.TwoCores.{board, of_two}
-use Rattle.std.proofs.lemmas.Bool.{eqb-false, false≢true}
+use Rattle.psci_shared.specs.Places.{Fill, FwEntry, FwItem, item, told}
+use Rattle.psci_shared.specs.Passes.{AllLast, BookView, entry, history_of, IsAnsweredAfter}
+use Rattle.psci_shared.specs.Passes.{IsAnsweredFault, IsFull, IsTold, PassView, Stand}
+use Rattle.psci_shared.proofs.Written.{board}
 use Rattle.psci_shared.specs.declared.fault.CallFault.TheVariants.{BookFull, Fw}
 use Rattle.psci_shared.specs.Locked.{IsTurnedAway}
-use Rattle.psci_shared.specs.Room.{Fill}
 
 -- what an example unfolds to compute an answer, and the statuses after it
 unfoldable pub computing : Unit {0}
@@ -103,27 +96,9 @@ fresh n = pass n [] (((0, Off) ∷ []) ∷ ((0, Off) ∷ []) ∷ [])
 abbrev pub booted : List FwEntry
 booted = enters 1 ∷ []
 
-abbrev after_on : List FwEntry
-after_on = enters 1 ∷ entry 5 (record { number = 0 }) on accepted ∷ []
-
 -- what a pass has then seen that had missed that core 0 was pending
 abbrev pub seen_on : List (List Item)
 seen_on = ((2, On) ∷ (0, Off) ∷ []) ∷ ((1, Pending) ∷ (0, Off) ∷ []) ∷ []
-
-on_stands : Stand board after_on seen_on
-unfolding computing
-on_stands = of_two _
-    (inl (refl, refl), omega arith, (inr (inr (inl (refl, refl))), tt, tt))
-    (inl (refl, refl), omega arith, (inr (inl (refl, refl)), tt, tt))
-
-on_is_last : AllLast board after_on seen_on
-unfolding computing
-on_is_last = of_two _ ((0, Off) ∷ [], refl) ((0, Off) ∷ [], refl)
-
-core_1_is_asked_on : IsAnsweredAfter board booted 5 (fresh 0)
-    (pass 0 (item 1 on accepted ∷ []) seen_on) on accepted
-unfolding computing
-core_1_is_asked_on = ((refl, tt), refl, refl, on_stands, on_is_last)
 
 -- what tells replies apart: an outcome that sends, one that does not, what was taken, a fault
 abbrev pub kind : FwReply → ℕ
@@ -133,31 +108,9 @@ kind (Fault NoLife) = 4
 kind (Fault NotRunning) = 5
 kind (Fault fault) = 6
 
--- the place of the first item
-abbrev first_place : List FwItem → ℕ
-first_place [] = 99
-first_place (i ∷ is) = i.place
-
-abbrev first_reply : List FwItem → ℕ
-first_reply [] = 99
-first_reply (i ∷ is) = kind i.reply
-
-old_item_is_gone : IsAnsweredAfter board booted 5 (pass 0 (item 0 (starts 1) boots ∷ []) [])
-    (pass 0 (item 1 on accepted ∷ []) seen_on) on accepted → ⊥
-unfolding computing
-old_item_is_gone h = eqb-false 1 2 refl (ap length h.2)
-
 -- a pass has seen what core 1 never was, or of core 0 what came by another serial
 never_on : Within (Pending ∷ Off ∷ []) ((1, On) ∷ []) → ⊥
-never_on (inl e, above, more) = let s : On ≡ Pending = e.1 in cc
-never_on (inr (inl e), above, more) = eqb-false 1 0 refl e.0
-never_on (inr (inr e), above, more) = e
-
-not_off_then : Within (On ∷ Pending ∷ Off ∷ []) ((2, On) ∷ (1, Off) ∷ []) → ⊥
-not_off_then (i, above, (inl e, over, more)) = eqb-false 1 2 refl e.0
-not_off_then (i, above, (inr (inl e), over, more)) = let s : Off ≡ Pending = e.1 in cc
-not_off_then (i, above, (inr (inr (inl e)), over, more)) = eqb-false 1 0 refl e.0
-not_off_then (i, above, (inr (inr (inr e)), over, more)) = e
+never_on = search arith
 
 -- the serial of the last item
 abbrev last : List Item → ℕ
@@ -188,18 +141,7 @@ other_answers :
     × ¬ (Answers (item 1 on accepted ∷ [])
     (((1, Pending) ∷ (0, Off) ∷ []) ∷ ((1, Pending) ∷ (0, Off) ∷ []) ∷ []) accepted)
 unfolding computing
-other_answers = (
-  λ h. eqb-false 1 2 refl (ap kind h.1),
-  λ h. eqb-false 4 2 refl (ap kind h.1),
-  λ h. eqb-false 0 1 refl (ap first_place h.2),
-  λ h. eqb-false 2 1 refl (ap first_place h.2),
-  λ h. eqb-false 1 2 refl (ap first_reply h.2),
-  λ h. eqb-false 0 1 refl (ap length h.2),
-  λ h. never_on (h.3 1 (omega arith)),
-  λ h. not_off_then (h.3 0 (omega arith)),
-  λ h. eqb-false 0 1 refl (ap last (h.4 1 (omega arith)).1),
-  λ h. eqb-false 1 2 refl (ap last (h.4 0 (omega arith)).1),
-)
+other_answers = search arith
 
 -- Core 1 is refused, in life 2 -------------------------------------------------------------------
 
@@ -214,13 +156,11 @@ seen_twice = ((4, On) ∷ (2, On) ∷ []) ∷ ((0, Off) ∷ []) ∷ []
 
 refused_stands : Stand board refused seen_twice
 unfolding computing
-refused_stands = of_two _
-    (inl (refl, refl), omega arith, (inr (inr (inl (refl, refl))), tt, tt))
-    (inl (refl, refl), tt, tt)
+refused_stands = search arith
 
 refused_is_last : AllLast board refused seen_twice
 unfolding computing
-refused_is_last = of_two _ ((2, On) ∷ [], refl) ([], refl)
+refused_is_last = search arith
 
 -- behind an item that the pass has
 abbrev item_0 : FwItem
@@ -231,17 +171,6 @@ core_1_is_refused : IsAnsweredFault board 9 (pass 1 (item_0 ∷ []) [])
 unfolding computing
 core_1_is_refused = (twice, 7, ((refl, (refl, tt)), refl, refl, refused_stands, refused_is_last))
 
--- the caller counts, and not core 0
-as_core_0 : IsAnsweredAfter board twice 7 (pass 1 (item_0 ∷ []) [])
-    (pass 1 (item_0 ∷ item 2 version version_told ∷ []) seen_twice) version version_told → ⊥
-unfolding computing
-as_core_0 h = eqb-false 1 5 refl (ap kind h.1)
-
--- what the firmware refuses is entered as well
-refused_without_an_item : IsAnsweredFault board 9 (pass 1 (item_0 ∷ []) [])
-    (pass 1 (item_0 ∷ []) []) version (Fw NotRunning) → ⊥
-refused_without_an_item h = eqb-false 1 2 refl (ap length h.2.2)
-
 -- After no history -------------------------------------------------------------------------------
 
 abbrev seen_entry : List (List Item)
@@ -251,10 +180,17 @@ seen_entry = ((2, On) ∷ (1, Pending) ∷ (0, Off) ∷ []) ∷ ((0, Off) ∷ []
 abbrev early : FwEntry
 early = entry 0 (record { number = 0 }) version version_told
 
-illegal : IsAnsweredAfter board (early ∷ []) 1 (fresh 0)
-    (pass 0 (item 1 (starts 1) boots ∷ []) seen_entry) (starts 1) boots → ⊥
+answered_or_not :
+    IsAnsweredAfter board booted 5 (fresh 0) (pass 0 (item 1 on accepted ∷ []) seen_on) on accepted
+    × ¬ (IsAnsweredAfter board booted 5 (pass 0 (item 0 (starts 1) boots ∷ []) []) (pass 0 (item 1
+    on accepted ∷ []) seen_on) on accepted)
+    -- the caller counts, and not core 0
+    × ¬ (IsAnsweredAfter board twice 7 (pass 1 (item_0 ∷ []) []) (pass 1 (item_0 ∷ item 2 version
+    version_told ∷ []) seen_twice) version version_told)
+    × ¬ (IsAnsweredAfter board (early ∷ []) 1 (fresh 0) (pass 0 (item 1 (starts 1) boots ∷ [])
+    seen_entry) (starts 1) boots)
 unfolding computing
-illegal h = eqb-false 1 4 refl (ap kind h.0.0)
+answered_or_not = search arith
 
 -- A book that is full ----------------------------------------------------------------------------
 
@@ -269,32 +205,28 @@ full_with_two = (refl, (twice, ((refl, (refl, tt)), refl)))
 do_not_fill : ¬ (Fill (IsTold board) 3 twice) × ¬ (Fill (IsTold board) 1 twice)
     × ¬ (Fill (IsTold board) 1 (early ∷ []))
 unfolding computing
-do_not_fill = (
-  λ h. eqb-false 2 3 refl h.1,
-  λ h. eqb-false 2 1 refl h.1,
-  λ h. eqb-false 1 4 refl (ap kind h.0.0),
-)
+do_not_fill = search arith
 
--- nobody told the pass; it was told before, and not by this call
-not_told : ¬ (IsFull board 2 (fresh 1))
+refused_or_not :
+    -- what the firmware refuses is entered as well
+    ¬ (IsAnsweredFault board 9 (pass 1 (item_0 ∷ []) []) (pass 1 (item_0 ∷ []) []) version (Fw
+    NotRunning))
+    -- nobody told the pass; it was told before, and not by this call
+    × ¬ (IsFull board 2 (fresh 1))
     × ¬ (IsAnsweredFault board 2 told_pass (fresh 1) version BookFull)
-not_told = (λ h. false≢true h.0, λ h. false≢true h.0)
+refused_or_not = search arith
 
 abbrev book_of : ℕ → BookView
 book_of room = record { entries = twice; room = room }
 
--- what a call leaves then; the pass is told, the book stays, and it was full
-turned_away : IsTurnedAway board 2 (book_of 2) (book_of 2) (fresh 1)
-    (record (fresh 1) { told_full = true })
+turned_or_not :
+    -- what a call leaves then; the pass is told, the book stays, and it was full
+    IsTurnedAway board 2 (book_of 2) (book_of 2) (fresh 1) (record (fresh 1) { told_full = true })
+    × ¬ (IsTurnedAway board 3 (book_of 3) (book_of 3) (fresh 1) (record (fresh 1) {
+      told_full = true;
+    }))
+    × ¬ (IsTurnedAway board 2 (book_of 2) (book_of 1) (fresh 1) (record (fresh 1) {
+      told_full = true;
+    }))
 unfolding computing
-turned_away = (refl, refl, refl, (refl, (refl, tt)))
-
-turned_away_otherwise :
-    ¬ (IsTurnedAway board 3 (book_of 3) (book_of 3) (fresh 1)
-    (record (fresh 1) { told_full = true }))
-    × ¬ (IsTurnedAway board 2 (book_of 2) (book_of 1) (fresh 1)
-    (record (fresh 1) { told_full = true }))
-turned_away_otherwise = (
-  λ h. eqb-false 2 3 refl h.2,
-  λ h. eqb-false 1 2 refl (ap (λ (b : BookView). b.room) h.0),
-)
+turned_or_not = search arith

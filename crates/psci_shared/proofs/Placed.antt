@@ -2,20 +2,21 @@
 -- stands in exactly one pass. Of lists of places: where the places of each list rise, no two lists
 -- have a place in common, and there are as many as there are places, each place stands in exactly
 -- one list, once.
-use Rattle.std.proofs.Common.{◌≡◌, ◌≢◌, ◌⊎◌, inl, inr, ℕ, zero, suc, ◌+◌, ◌<◌, ◌≤◌, List, [], ◌∷◌}
-use Rattle.std.proofs.Common.{length, map, true, false, refl, sym, ◌∙◌, arith}
-use Rattle.std.specs.Prelude.{◌==◌, not, if◌then◌else◌, count_by, slice_get}
-use Rattle.std.proofs.lemmas.Bool.{and_parts, or_parts, not-true, ne_eqb, cases_eq}
+use Rattle.std.specs.Prelude.{◌==◌, count_by, if◌then◌else◌, not, slice_get}
+use Rattle.std.proofs.Common.{◌+◌, ◌<◌, ◌∙◌, ◌∷◌, ◌≡◌, ◌≢◌, ◌≤◌, ◌⊎◌, [], arith, drop, false}
+use Rattle.std.proofs.Common.{inl, inr, length, List, map, nat_lt, refl, suc, sym, true, zero, ℕ}
+use Rattle.std.proofs.lemmas.Bool.{and_parts, cases_eq, cond_both, ltb-false, ltb-true, ne_eqb}
+use Rattle.std.proofs.lemmas.Bool.{not-true, or_parts, or_right}
 use Rattle.std.proofs.lemmas.List.{length-map}
 use Rattle.std.proofs.lemmas.List.Sums.{sum_by-cons}
+use Rattle.psci_status.proofs.Past.{same_code}
+use Rattle.psci_shared.specs.Places.{Agree, all_apart, AllAgree, AllPlaced, AllRise}
+use Rattle.psci_shared.specs.Places.{AllStandFrom, AnyBook, AnyPass, apart, apart_from}
+use Rattle.psci_shared.specs.Places.{begins_at, EachOnce, has_place, not_below, places}
+use Rattle.psci_shared.specs.Places.{places_of, RisesFrom, StandsAt, times}
+use Rattle.psci_shared.specs.Passes.{items_of}
 use Rattle.psci_shared.specs.declared.entry.Entry.{Entry}
 use Rattle.psci_shared.specs.declared.entry.Item.{Item}
-use Rattle.psci_shared.specs.Agree.{Agree, AllAgree, AllStandFrom, StandsAt}
-use Rattle.psci_shared.specs.Gathers.{items_of}
-use Rattle.psci_shared.specs.Places.{AllPlaced, AllRise, EachOnce, RisesFrom, all_apart, apart}
-use Rattle.psci_shared.specs.Places.{apart_from, has_place, places, places_of, times}
-use Rattle.psci_shared.specs.Views.{AnyBook, AnyPass}
-use Rattle.psci_status.proofs.Last.{same_code}
 
 -- Lists that share no place, and rise -------------------------------------------------------------
 
@@ -223,3 +224,60 @@ pub all_placed : {W S C R : Type 0} (b : AnyBook W C R) (ps : List (AnyPass W S 
 all_placed b ps h full =
     each_once (length b.entries) (map places_of ps) (all_rise b ps h.0)
     h.1 (total_same ps ∙ sym full)
+
+-- Two lists of places that rise are walked through together ---------------------------------------
+
+-- the places from here on, where this item is the first of the rest
+pub places_at : {C R : Type 0} (items rest : List (Item C R)) (x it : Item C R) (from : ℕ)
+    → drop from items ≡ x ∷ rest → it ≡ x → places (drop from items) ≡ it.place ∷ places rest
+places_at items rest x it from at is = rw (at, is) refl
+
+pub rises_low : (from : ℕ) (ps : List ℕ) → RisesFrom from ps → RisesFrom 0 ps
+rises_low from [] rises = tt
+rises_low from (p ∷ ps) rises = (omega arith, rises.1)
+
+above : (p from : ℕ) (qs : List ℕ) → RisesFrom from qs → p < from → has_place p qs ≡ false
+above p from [] rises low = refl
+above p from (q ∷ qs) rises low =
+    let high : from ≤ q = rises.0 in
+    rw (ne_eqb q p (λ (e : q ≡ p). omega arith)) (above p (q + 1) qs rises.1 (omega arith))
+
+-- a place that is below all of a list may be left out of the other one
+drop_other : (q from : ℕ) (ps qs : List ℕ) → RisesFrom from ps → q < from
+    → apart ps (q ∷ qs) ≡ apart ps qs
+drop_other q from [] qs rises low = refl
+drop_other q from (p ∷ ps) qs rises low =
+    let high : from ≤ p = rises.0 in
+    rw (ne_eqb q p (λ (e : q ≡ p). omega arith), drop_other q (p + 1) ps qs rises.1 (omega arith))
+    refl
+
+pub left_rises : (p from : ℕ) (qs : List ℕ) → RisesFrom from qs → RisesFrom 0 (not_below p qs)
+left_rises p from [] rises = tt
+left_rises p from (q ∷ qs) rises =
+    cond_both (nat_lt q p) _ _ (RisesFrom 0) (λ t. left_rises p (q + 1) qs rises.1)
+    (λ t. (omega arith, rises.1))
+
+has : (p : ℕ) (qs : List ℕ) → begins_at p (not_below p qs) ≡ true → has_place p qs ≡ true
+has p [] is = is
+has p (q ∷ qs) is =
+    cond_both (nat_lt q p) (not_below p qs) (q ∷ qs)
+    (λ (l : List ℕ). begins_at p l ≡ true → has_place p (q ∷ qs) ≡ true)
+    (λ t first. or_right (q == p) _ (has p qs first)) (λ t first. rw first refl) is
+
+-- the place is in both
+pub meets : (p : ℕ) (ps qs : List ℕ) → begins_at p (not_below p qs) ≡ true
+    → apart (p ∷ ps) qs ≡ false
+meets p ps qs is = rw (has p qs is) refl
+
+-- it is not in the other list, of which what is below it may be left out for what follows
+pub goes_on : (p from : ℕ) (ps qs : List ℕ) → RisesFrom (p + 1) ps → RisesFrom from qs
+    → begins_at p (not_below p qs) ≡ false
+    → apart (p ∷ ps) qs ≡ apart ps (not_below p qs)
+goes_on p from ps [] ones others other = refl
+goes_on p from ps (q ∷ qs) ones others other =
+    cond_both (nat_lt q p) (not_below p qs) (q ∷ qs)
+    (λ (l : List ℕ). begins_at p l ≡ false → apart (p ∷ ps) (q ∷ qs) ≡ apart ps l)
+    (λ t rest. drop_other q p (p ∷ ps) qs (omega arith, ones) (ltb-true q p t)
+    ∙ goes_on p (q + 1) ps qs ones others.1 rest)
+    (λ t rest. let more = ltb-false q p t in
+    rw (rest, above p (q + 1) qs others.1 (omega (arith, more))) refl) other

@@ -1,18 +1,16 @@
 -- A core that the last call does not name has nothing more to be written; and a call that names no
 -- core has begun no life and changed no status, so nothing is to be written.
-use Rattle.std.proofs.Common.{◌≡◌, ◌≢◌, ℕ, List, ◌∷◌, false, refl, sym}
-use Rattle.std.proofs.Common.{◌∙◌, Option, None, Some}
+use Rattle.std.proofs.Common.{◌∙◌, ◌∷◌, ◌≡◌, ◌≢◌, false, List, None, Option, refl, Some, sym, ℕ}
 use Rattle.std.specs.Prelude.{◌<◌, ◌==◌, not, if◌then◌else◌}
 use Rattle.std.specs.Ordering.{int_eq}
 use Rattle.std.proofs.lemmas.Bool.{cond_both, eqb-false}
 use Rattle.std.proofs.lemmas.Option.{none-some}
-use Rattle.psci_fw.specs.psci_abi.Calls.{request_of}
-use Rattle.psci_fw.specs.psci_abi.Codes.{success}
-use Rattle.psci_fw.specs.psci_abi.declared.code.Code.{Code}
+use Rattle.psci_fw.specs.psci_abi.Calls.{request_of, success}
+use Rattle.psci_fw.specs.psci_abi.declared.registers.Code.{Code}
 use Rattle.psci_fw.specs.psci_abi.declared.request.Request.{Request}
 use Rattle.psci_fw.specs.psci_abi.declared.request.Request.TheVariants as requests
 use Rattle.psci_fw.specs.psci_board.Board.{BoardValue, cores}
-use Rattle.psci_fw.specs.psci_board.declared.node.Core.{Core}
+use Rattle.psci_fw.specs.psci_board.declared.draft.Core.{Core}
 use Rattle.psci_fw.specs.psci_fw_spec.declared.call.FwCall.{FwCall}
 use Rattle.psci_fw.specs.psci_fw_spec.declared.call.FwCall.TheVariants.{Smc, Enter, Take}
 use Rattle.psci_fw.specs.psci_fw_spec.declared.mode.SuspendMode.{SuspendMode}
@@ -21,24 +19,21 @@ use Rattle.psci_fw.specs.psci_fw_spec.declared.outcome.Act.TheVariants as acts
 use Rattle.psci_fw.specs.psci_fw_spec.declared.reply.FwReply.{FwReply}
 use Rattle.psci_fw.specs.psci_fw_spec.declared.reply.FwReply.TheVariants.{Out, Taken}
 use Rattle.psci_fw.specs.psci_fw_spec.declared.status.Status.{Status}
-use Rattle.psci_fw.specs.psci_fw_spec.Effects.{Effect, effect_of, function_effect}
-use Rattle.psci_fw.specs.psci_fw_spec.Effects.{mode_effect, return_effect, sent_effect, stop_effect}
-use Rattle.psci_fw.specs.psci_fw_spec.Exchange.{FwExchange}
+use Rattle.psci_fw.specs.psci_fw_spec.Effects.{arrived, Effect, effect_of, function_effect}
+use Rattle.psci_fw.specs.psci_fw_spec.Effects.{FwExchange, mode_effect, return_effect}
+use Rattle.psci_fw.specs.psci_fw_spec.Effects.{sent_effect, stop_effect}
 use Rattle.psci_fw.specs.psci_fw_spec.History.{life, status, values_of}
-use Rattle.psci_fw.specs.psci_fw_spec.Said.{arrived}
 use Rattle.psci_fw.specs.psci_fw_spec.Statuses.{added}
-use Rattle.psci_fw.specs.psci_fw_spec.SuspendMode.{mode_of}
+use Rattle.psci_fw.specs.psci_fw_spec.PowerCalls.{mode_of}
 use Rattle.psci_messages.specs.Message.{MessageValue}
-use Rattle.psci_status.specs.Naming.{is_named, names}
-use Rattle.psci_status.specs.Writing.{one_more, written_then}
-use Rattle.psci_status.specs.Lists.{row}
-use Rattle.psci_shared.specs.Entries.{FwEntry}
-use Rattle.psci_shared.specs.Books.{exchange_of, history_of}
-use Rattle.psci_shared.specs.Writing.{IsOneBehind, named_by, written_after}
-use Rattle.psci_shared.proofs.Histories.{history_more}
+use Rattle.psci_status.specs.Lists.{is_named, names, one_more, row, written_then}
+use Rattle.psci_shared.specs.Places.{FwEntry}
+use Rattle.psci_shared.specs.Passes.{exchange_of, history_of, IsOneBehind, named_by}
+use Rattle.psci_shared.specs.Passes.{written_after}
+use Rattle.psci_shared.proofs.Crossing.{history_more}
 use Rattle.psci_fw.specs.psci_fw_spec.Values.{Values}
-use Rattle.psci_status.proofs.Last.{added_last, status_stays, same_code}
-use Rattle.psci_status.proofs.Past.{names_enter, names_smc, names_take}
+use Rattle.psci_status.proofs.Past.{added_last, names_enter, names_smc, names_take, same_code}
+use Rattle.psci_status.proofs.Past.{status_stays}
 
 -- a call names no other core
 names_no_other : (b : BoardValue) (c : Core) (core : ℕ) (call : FwCall) (reply : FwReply)

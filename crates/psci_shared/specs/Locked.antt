@@ -1,24 +1,23 @@
 -- What a call does under the lock.
-use Rattle.std.specs.Prelude.{◌≡◌, ◌+◌, ℕ, List, [], ◌∷◌, ◌++◌, length}
-use Rattle.std.specs.Prelude.{Vec, vec_capacity, vec_items, vec_len}
+use Rattle.std.specs.Prelude.{◌++◌, ◌+◌, ◌∷◌, ◌≡◌, [], length, List, Vec, vec_capacity}
+use Rattle.std.specs.Prelude.{vec_items, vec_len, ℕ}
+use Rattle.atomic_table.specs.Seated.{TableId}
+use Rattle.psci_fw.specs.Reactions.{reply_in}
+use Rattle.psci_fw.specs.psci_abi.declared.registers.Format.TheVariants.{Original}
 use Rattle.psci_fw.specs.psci_board.Board.{BoardValue}
-use Rattle.psci_fw.specs.psci_board.declared.node.Core.{Core}
+use Rattle.psci_fw.specs.psci_board.declared.draft.Core.{Core}
+use Rattle.psci_fw.specs.psci_fw_spec.Legal.{IsLegal}
+use Rattle.psci_fw.specs.psci_fw_spec.Values.{Values}
 use Rattle.psci_fw.specs.psci_fw_spec.declared.call.FwCall.{FwCall}
 use Rattle.psci_fw.specs.psci_fw_spec.declared.reply.FwReply.{FwReply}
 use Rattle.psci_fw.specs.psci_fw_spec.declared.reply.FwReply.TheVariants as replies
-use Rattle.psci_fw.specs.psci_fw_spec.Legal.{IsLegal}
-use Rattle.psci_fw.specs.psci_fw_spec.Values.{Values}
-use Rattle.psci_fw.specs.Reactions.{reply_in}
-use Rattle.psci_status.specs.Lists.{Item, gains}
+use Rattle.psci_status.specs.Lists.{gains, Item}
+use Rattle.psci_shared.specs.Passes.{AllLast, answer_after, BookView, entry, Fits, history_of}
+use Rattle.psci_shared.specs.Passes.{IsTold, named_by, PassView, Stand}
+use Rattle.psci_shared.specs.Places.{called, entered, FwEntry, IsTurnedAwayOf, item}
 use Rattle.psci_shared.specs.declared.done.Done.{Done}
 use Rattle.psci_shared.specs.declared.done.Said.{Said}
 use Rattle.psci_shared.specs.declared.done.Said.TheVariants.{Reacted, Taken}
-use Rattle.psci_shared.specs.Entries.{FwEntry}
-use Rattle.psci_shared.specs.Books.{BookView, IsTold, answer_after, entry, history_of}
-use Rattle.psci_shared.specs.Passes.{Fits, PassView}
-use Rattle.psci_shared.specs.Room.{IsTurnedAwayOf}
-use Rattle.psci_shared.specs.Views.{called, entered, item}
-use Rattle.psci_shared.specs.Writing.{AllLast, Stand, named_by}
 
 -- a list has one more at its end, in the room that there was
 pub record Pushed {T Z : Type 0} (old new : Vec T Z) (x : T) : Type 0 where
@@ -57,3 +56,21 @@ IsEntered b ticket book book' p p' call reply =
 -- the firmware's book is full: it stays as it is, and the pass is told
 abbrev pub IsTurnedAway : BoardValue → ℕ → BookView → BookView → PassView → PassView → Type 0
 IsTurnedAway b room book book' p p' = IsTurnedAwayOf (IsTold b) room book book' p p'
+
+-- The names that stand where nothing is named -----------------------------------------------------
+
+-- the board of no firmware
+abbrev pub no_board : BoardValue
+no_board = record { levels = []; ranges = []; boot = 0; starts = 0; lives = 0; format = Original }
+
+-- the table of no firmware
+abbrev pub no_table : TableId
+no_table = record {
+  words = 0;
+  slots = 0;
+  views_name = 0;
+  atom = 0;
+  block = 0;
+  offset = 0;
+  slot_names = [];
+}

@@ -1,10 +1,9 @@
 //! Whether passes agree with a book.
 
 ghost use Rattle.std.specs.Prelude.{◌≡◌, ◌↔◌, IsTrue, slice_get, option_map, map};
-ghost use Rattle.psci_shared.specs.Agree.{Agree, Agrees, AllAgree, AllStandFrom};
-ghost use Rattle.psci_shared.specs.Agree.{StandsAt, StandsFrom};
-ghost use Rattle.psci_shared.specs.Places.{AllRise, RisesFrom, all_apart, apart};
-ghost use Rattle.psci_shared.specs.Places.{apart_from, begins_at, not_below, places, places_of};
+ghost use Rattle.psci_shared.specs.Places.{Agree, Agrees, all_apart, AllAgree, AllRise};
+ghost use Rattle.psci_shared.specs.Places.{AllStandFrom, apart, apart_from, begins_at, not_below};
+ghost use Rattle.psci_shared.specs.Places.{places, places_of, RisesFrom, StandsAt, StandsFrom};
 
 use crate::answers::{Answers, EntryOf, ItemOf, PassBy};
 use crate::book::BookOf;

@@ -10,7 +10,7 @@ pub trait Answers: Drop {
     ghost use Rattle.std.specs.Prelude.{◌↔◌, List, [], IfOk, IsTrue};
     ghost use Rattle.psci_fw.specs.psci_board.Board.{BoardValue};
     ghost use Rattle.psci_shared.specs.declared.entry.Entry.{Entry};
-    ghost use Rattle.psci_shared.specs.Agree.{IsOf};
+    ghost use Rattle.psci_shared.specs.Places.{IsOf};
 
     /// Who calls through a pass: a core, or `()` where passes have none.
     type Core: Drop;

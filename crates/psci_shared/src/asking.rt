@@ -1,18 +1,16 @@
 //! The firmware is asked, and what it replies is written down.
 
-ghost use Rattle.std.specs.Prelude.{◌≡◌, ◌<◌, MatchResult, None};
-ghost use Rattle.std.specs.Prelude.{vec_len, vec_capacity};
-ghost use Rattle.psci_fw.specs.Seen.{seen};
-ghost use Rattle.psci_fw.specs.psci_fw_spec.After.{after};
+ghost use Rattle.std.specs.Prelude.{◌<◌, ◌≡◌, MatchResult, None, vec_capacity, vec_len};
+ghost use Rattle.psci_fw.specs.Reactions.{seen};
+ghost use Rattle.psci_fw.specs.psci_fw_spec.Effects.{after};
 ghost use Rattle.psci_fw.specs.psci_fw_spec.Answer.{answer};
 ghost use Rattle.psci_fw.specs.psci_fw_spec.declared.call.FwCall.TheVariants as calls;
 ghost use Rattle.psci_fw.specs.psci_fw_spec.declared.reply.FwReply.TheVariants as replies;
 ghost use Rattle.psci_fw.specs.Reactions.{outcome_in, reply_in};
-ghost use Rattle.psci_status.specs.Naming.{asked_by};
-ghost use Rattle.psci_shared.specs.Books.{entry};
+ghost use Rattle.psci_status.specs.Lists.{asked_by};
+ghost use Rattle.psci_shared.specs.Passes.{entry, Fits};
 ghost use Rattle.psci_shared.specs.Locked.{IsDone, Pushed};
-ghost use Rattle.psci_shared.specs.Passes.{Fits};
-ghost use Rattle.psci_shared.specs.Views.{item};
+ghost use Rattle.psci_shared.specs.Places.{item};
 
 use crate::done::{Done, Said};
 use crate::entry::{FwEntry, FwItem, quiet, sending, sent_from};

@@ -17,8 +17,7 @@ pub struct BookOf<N: Named, M: Answers> {
 
 impl<N: Named, M: Answers> Model for BookOf<N, M> {
     ghost use Rattle.std.specs.Prelude.{length, vec_capacity};
-    ghost use Rattle.psci_shared.specs.Room.{HasRoom};
-    ghost use Rattle.psci_shared.specs.Views.{AnyBook};
+    ghost use Rattle.psci_shared.specs.Places.{AnyBook, HasRoom};
 
     ghost Value = { AnyBook M.Core M.Call M.Reply };
 

@@ -1,7 +1,7 @@
 //! What came of a call, while its message stands in its slot.
 
 ghost use Rattle.std.specs.Prelude.{◌≡◌};
-ghost use Rattle.psci_fw.specs.Seen.{seen};
+ghost use Rattle.psci_fw.specs.Reactions.{seen};
 ghost use Rattle.psci_shared.specs.declared.done.Said.TheVariants as says;
 ghost use Rattle.psci_shared.specs.Locked.{reply_said};
 

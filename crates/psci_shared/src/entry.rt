@@ -1,10 +1,9 @@
 //! What a book and a pass keep of a call.
 
 ghost use Rattle.std.specs.Prelude.{◌≡◌, None, Some, option_map};
-ghost use Rattle.psci_fw.specs.Reactions.{sent_from};
-ghost use Rattle.psci_fw.specs.Seen.{seen};
-ghost use Rattle.psci_shared.specs.Books.{entry};
-ghost use Rattle.psci_shared.specs.Views.{item};
+ghost use Rattle.psci_fw.specs.Reactions.{seen, sent_from};
+ghost use Rattle.psci_shared.specs.Passes.{entry};
+ghost use Rattle.psci_shared.specs.Places.{item};
 
 use psci_fw::{Act, Firmware, FwCall, FwReply, Outcome, Regs, Taken};
 use psci_messages::Message;

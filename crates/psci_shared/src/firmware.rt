@@ -16,7 +16,7 @@ use std::alloc::Global;
 pub type FwBook<N> = BookOf<N, Firmware>;
 
 impl Answers for Firmware {
-    ghost use Rattle.psci_shared.specs.Books.{Has, IsTold};
+    ghost use Rattle.psci_shared.specs.Passes.{Has, IsTold};
 
     type Core = Core;
 
@@ -28,7 +28,7 @@ impl Answers for Firmware {
 
     ghost IsTold = { λ b entries. IsTold b entries };
 
-    #[tactic(auto, using(crate::proofs::Histories::history_none))]
+    #[tactic(auto, using(crate::proofs::Crossing::history_none))]
     fn open(alloc: Global, board: &Board) -> Result<Firmware, Memory> {
         law_values();
         Firmware::new(alloc, board)
@@ -42,16 +42,15 @@ impl Answers for Firmware {
 }
 
 ghost use Rattle.std.specs.Prelude.{◌≡◌, ◌<◌, length, IfOk, OnOk, OnErr, vec_len, vec_capacity};
-ghost use Rattle.psci_fw.specs.Seen.{seen};
+ghost use Rattle.psci_fw.specs.Reactions.{seen};
 ghost use Rattle.psci_fw.specs.psci_fw_spec.History.{life, values_of};
-ghost use Rattle.psci_shared.specs.Passes.{Fits};
-ghost use Rattle.psci_shared.specs.Views.{entered, item};
+ghost use Rattle.psci_shared.specs.Passes.{answer_after, entry, Fits, history_of};
+ghost use Rattle.psci_shared.specs.Places.{entered, item};
 ghost use Rattle.psci_shared.specs.Locked.{IsDone, Pushed, reply_said};
-ghost use Rattle.psci_shared.specs.Books.{answer_after, entry, history_of};
 
 impl<N: Named> FwBook<N> {
     /// Carries out a call of this core and enters it, unless the book is full.
-    #[tactic(auto, using(crate::proofs::Histories::history_more))]
+    #[tactic(auto, using(crate::proofs::Crossing::history_more))]
     pub fn step(&mut self, ticket: u64, core: Core, call: FwCall) -> Result<FwReply, BookFull>
         ensures reply { IfOk result (λ reply. reply
             ≡ answer_after N.board self.old.entries core.number call) }
@@ -75,7 +74,7 @@ impl<N: Named> FwBook<N> {
     /// The same for a pass, where neither is full; the call goes into its list as well, and the
     /// message stays in its slot. `A` is for the compiler, as in all that is done under the lock:
     /// so each kind of call has its own.
-    #[tactic(auto, using(crate::proofs::Histories::history_more))]
+    #[tactic(auto, using(crate::proofs::Crossing::history_more))]
     pub(crate) fn carry_out<A>(
         &mut self,
         items: &mut Vec<FwItem>,

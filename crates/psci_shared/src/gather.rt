@@ -3,10 +3,8 @@
 ghost use Rattle.std.specs.Prelude.{◌≡◌, length, map, IfErr, IfOk, MatchResult};
 ghost use Rattle.psci_status.specs.Seats.{table, table_of_writer, written};
 ghost use Rattle.psci_status.specs.Lists.{newest};
-ghost use Rattle.psci_shared.specs.Agree.{Agree};
-ghost use Rattle.psci_shared.specs.Gathers.{AllSeen, AllStand, AreMet, IsCause, items_of, met};
-ghost use Rattle.psci_shared.specs.Places.{AllPlaced};
-ghost use Rattle.psci_shared.specs.Told.{FullIfTold};
+ghost use Rattle.psci_shared.specs.Places.{Agree, AllPlaced, FullIfTold};
+ghost use Rattle.psci_shared.specs.Passes.{AllSeen, AllStand, AreMet, IsCause, items_of, met};
 
 use crate::firmware::FwBook;
 use crate::gathered::{BooksOf, GatherFaultOf};
@@ -25,7 +23,7 @@ pub type GatherFault<N> = GatherFaultOf<FwLocked<N>, StatusWords, Pass<N>>;
 impl<'t, N: Named> SharedFirmware<'t, N> {
     /// Gathers the passes with the book, in which each place then stands in one of them. Gathered
     /// or not, the book is full if one of them was told so.
-    #[tactic(auto, using(crate::proofs::Telling::told_before))]
+    #[tactic(auto, using(crate::proofs::Written::told_before))]
     pub fn gather(self, passes: Vec<Pass<N>>) -> Result<Books<N>, GatherFault<N>>
         ensures fault { IfErr result (λ f. IsCause f.cause (Agree f.locked.book f.passes.items)
             (length f.passes.items) self.entry.made) }

@@ -1,24 +1,21 @@
 //! What a pass has seen right after a call of its own.
 
 ghost use Rattle.std.specs.Prelude.{◌≡◌, ◌≢◌, ◌<◌, ℕ, List, [], ◌∷◌, ◌++◌, Some, pos};
-ghost use Rattle.psci_fw.specs.psci_abi.declared.code.Code.{Code};
+ghost use Rattle.psci_fw.specs.psci_abi.declared.registers.Code.{Code};
 ghost use Rattle.psci_fw.specs.psci_board.Board.{BoardValue, cores};
-ghost use Rattle.psci_fw.specs.psci_board.declared.node.Core.{Core};
+ghost use Rattle.psci_fw.specs.psci_board.declared.draft.Core.{Core};
 ghost use Rattle.psci_fw.specs.psci_fw_spec.declared.status.Status.{Status};
-ghost use Rattle.psci_fw.specs.psci_fw_spec.AffinityInfo.{status_code};
+ghost use Rattle.psci_fw.specs.psci_fw_spec.PowerCalls.{status_code};
 ghost use Rattle.psci_fw.specs.psci_fw_spec.Statuses.{statuses};
 ghost use Rattle.psci_fw.specs.psci_fw_spec.declared.status.Status.TheVariants.{On, Pending};
 ghost use Rattle.psci_fw.specs.psci_fw_spec.Changes.{PowerOn, target};
-ghost use Rattle.psci_fw.specs.psci_fw_spec.Effects.{AsksOn, Enters};
-ghost use Rattle.psci_fw.specs.psci_fw_spec.Exchange.{effect};
+ghost use Rattle.psci_fw.specs.psci_fw_spec.Effects.{AsksOn, effect, Enters};
 ghost use Rattle.psci_fw.specs.psci_fw_spec.History.{life, status};
 ghost use Rattle.psci_messages.specs.declared.start.Start.{Start};
 ghost use Rattle.psci_status.specs.Lists.{Item, Stands, row};
-ghost use Rattle.psci_shared.specs.Entries.{FwEntry};
-ghost use Rattle.psci_shared.specs.Books.{exchange_of, history_of};
-ghost use Rattle.psci_shared.specs.Passes.{IsAffinity, PassView};
-ghost use Rattle.psci_shared.specs.Polls.{Goes, IsAmong, IsOneOf};
-ghost use Rattle.psci_shared.specs.Writing.{AllLast, HasSeen, Stand};
+ghost use Rattle.psci_shared.specs.Places.{FwEntry};
+ghost use Rattle.psci_shared.specs.Passes.{AllLast, exchange_of, Goes, HasSeen, history_of};
+ghost use Rattle.psci_shared.specs.Passes.{IsAffinity, IsAmong, IsOneOf, PassView, Stand};
 
 /// A pass that has seen the last status of each core, as after each call of its own that is
 /// entered, has seen the firmware's status last, in every life. So right after an accepted CPU_ON

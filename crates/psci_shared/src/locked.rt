@@ -5,8 +5,8 @@ ghost use Rattle.psci_fw.specs.psci_board.Board.{cores};
 ghost use Rattle.psci_fw.specs.psci_fw_spec.declared.status.Status.TheVariants.{Off};
 ghost use Rattle.psci_status.specs.Seats.{table, table_of_writer, written};
 ghost use Rattle.psci_shared.specs.Locked.{IsEntered, IsReply, IsTurnedAway};
-ghost use Rattle.psci_shared.specs.Told.{IsTotal};
-ghost use Rattle.psci_shared.specs.Writing.{IsWritten};
+ghost use Rattle.psci_shared.specs.Places.{IsTotal};
+ghost use Rattle.psci_shared.specs.Passes.{IsWritten};
 
 use crate::entry::BookFull;
 use crate::firmware::FwBook;

@@ -34,7 +34,7 @@ impl<N: Named> Model for Made<N> {
 unsafe impl<N: Named> Sync for Made<N> {}
 
 ghost use Rattle.std.specs.Prelude.{◌≡◌, ◌≤◌, ◌<◌, ◌+◌, [], vec_capacity};
-ghost use Rattle.psci_shared.specs.Views.{first};
+ghost use Rattle.psci_shared.specs.Places.{first};
 
 impl<N: Named> Made<N> {
     /// No pass was made: all parts of the ledger are here, and nothing is counted in it.

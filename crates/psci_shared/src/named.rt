@@ -19,7 +19,7 @@ pub trait Named: Ledger {
 }
 
 impl Named for Brand {
-    ghost use Rattle.psci_shared.specs.Names.{no_board, no_table};
+    ghost use Rattle.psci_shared.specs.Locked.{no_board, no_table};
 
     ghost board = { no_board };
 

@@ -22,8 +22,7 @@ pub struct PassOf<N: Named, W, S, C, R> {
 
 impl<N: Named, W, S, C, R> Model for PassOf<N, W, S, C, R> {
     ghost use Rattle.std.specs.Prelude.{◌≡◌, ◌≤◌, vec_len, vec_capacity};
-    ghost use Rattle.psci_shared.specs.Told.{counted};
-    ghost use Rattle.psci_shared.specs.Views.{AnyPass};
+    ghost use Rattle.psci_shared.specs.Places.{AnyPass, counted};
 
     ghost Value = { AnyPass W S C R };
 
@@ -41,8 +40,7 @@ impl<N: Named, W, S, C, R> Model for PassOf<N, W, S, C, R> {
 }
 
 ghost use Rattle.std.specs.Prelude.{◌≡◌, ◌≤◌, [], length, vec_capacity};
-ghost use Rattle.psci_shared.specs.Told.{counted};
-ghost use Rattle.psci_shared.specs.Views.{first};
+ghost use Rattle.psci_shared.specs.Places.{counted, first};
 
 impl<N: Named, W: Drop, S: Drop, C: Drop, R: Drop> PassOf<N, W, S, C, R> {
     /// A pass that was not called by yet.

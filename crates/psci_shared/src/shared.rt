@@ -1,21 +1,18 @@
 //! The firmware that threads share.
 
-ghost use Rattle.std.specs.Prelude.{◌≡◌, ◌≤◌, ◌+◌, ◌<◌, List, [], ◌∷◌, replicate};
-ghost use Rattle.std.specs.Prelude.{IfOk, IfErr, OnOk, OnErr, MatchResult, IfSome};
+ghost use Rattle.std.specs.Prelude.{◌+◌, ◌<◌, ◌∷◌, ◌≡◌, ◌≤◌, [], IfErr, IfOk, IfSome, List};
+ghost use Rattle.std.specs.Prelude.{MatchResult, OnErr, OnOk, replicate};
 ghost use Rattle.std.specs.Fn.{FnOnceReturnsAt};
 ghost use Rattle.psci_fw.specs.psci_board.Board.{core_of, cores};
 ghost use Rattle.psci_fw.specs.psci_fw_spec.declared.call.FwCall.TheVariants as calls;
 ghost use Rattle.psci_fw.specs.psci_fw_spec.declared.reply.FwReply.TheVariants as replies;
 ghost use Rattle.psci_fw.specs.psci_fw_spec.declared.status.Status.TheVariants.{Off};
 ghost use Rattle.psci_status.specs.Seats.{table, table_of_writer, written};
-ghost use Rattle.psci_shared.specs.Entries.{FwEntry};
-ghost use Rattle.psci_shared.specs.Answered.{IsAnswered, IsAnsweredFault, IsFull};
+ghost use Rattle.psci_shared.specs.Places.{FwEntry, told};
+ghost use Rattle.psci_shared.specs.Passes.{Fits, history_of, IsAffinity, IsAnswered};
+ghost use Rattle.psci_shared.specs.Passes.{IsAnsweredFault, IsCalled, IsFirst, IsFull, IsNoPass};
+ghost use Rattle.psci_shared.specs.Passes.{IsPolled, IsRefused};
 ghost use Rattle.psci_fw.specs.psci_fw_spec.Legal.{IsLegal};
-ghost use Rattle.psci_shared.specs.Books.{history_of};
-ghost use Rattle.psci_shared.specs.Passes.{Fits, IsAffinity, IsCalled, IsFirst, IsNoPass};
-ghost use Rattle.psci_shared.specs.Passes.{IsRefused};
-ghost use Rattle.psci_shared.specs.Views.{told};
-ghost use Rattle.psci_shared.specs.Polls.{IsPolled};
 
 use crate::entry::{BookFull, FwEntry};
 use crate::fault::{CallFault, PassFault};

@@ -26,13 +26,11 @@ impl<N: Named> Model for Tally<N> {
     ghost view = { λ t. t.total.total };
 }
 
-ghost use Rattle.std.specs.Prelude.{◌≡◌, ◌≢◌, ◌⊎◌, ◌≤◌, ◌<◌, ◌+◌, ◌*◌, ◌^◌, length};
-ghost use Rattle.std.specs.Prelude.{IfOk, OnOk, OnErr, IfSome, IfNone};
-ghost use Rattle.psci_shared.specs.Agree.{Agree};
-ghost use Rattle.psci_shared.specs.Gathers.{IsCause, items_of};
-ghost use Rattle.psci_shared.specs.Places.{AllPlaced};
-ghost use Rattle.psci_shared.specs.Told.{FullIfTold, IsTotal, told_of};
-ghost use Rattle.psci_shared.specs.Views.{called, told};
+ghost use Rattle.std.specs.Prelude.{◌*◌, ◌+◌, ◌<◌, ◌^◌, ◌≡◌, ◌≢◌, ◌≤◌, ◌⊎◌, IfNone, IfOk, IfSome};
+ghost use Rattle.std.specs.Prelude.{length, OnErr, OnOk};
+ghost use Rattle.psci_shared.specs.Places.{Agree, AllPlaced, called, FullIfTold, IsTotal, told};
+ghost use Rattle.psci_shared.specs.Places.{told_of};
+ghost use Rattle.psci_shared.specs.Passes.{IsCause, items_of};
 
 impl<N: Named> Tally<N> {
     /// The ledger of a new lock, of which no pass was made.

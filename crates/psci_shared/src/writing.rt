@@ -4,7 +4,7 @@ ghost use Rattle.std.specs.Prelude.{◌≡◌, ℕ, ◌<◌, ◌^◌, length};
 ghost use Rattle.psci_fw.specs.psci_board.Board.{cores};
 ghost use Rattle.psci_status.specs.Lists.{row};
 ghost use Rattle.psci_status.specs.Seats.{table, table_of_writer, written};
-ghost use Rattle.psci_shared.specs.Writing.{IsOneBehind, written_after};
+ghost use Rattle.psci_shared.specs.Passes.{IsOneBehind, written_after};
 
 use crate::firmware::FwBook;
 use crate::named::Named;

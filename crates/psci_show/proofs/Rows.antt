@@ -1,18 +1,16 @@
 -- One row more.
-use Rattle.std.proofs.Common.{◌≡◌, ℕ, ◌+◌, List, ◌∷◌, ◌++◌, length, ap, sym, ◌∙◌, append_assoc}
-use Rattle.std.proofs.Common.{arith, refl, Some}
-use Rattle.psci_world.specs.Seen.{WorldValue}
+use Rattle.std.proofs.Common.{◌++◌, ◌+◌, ◌∙◌, ◌∷◌, ◌≡◌, ap, append_assoc, arith, length, List}
+use Rattle.std.proofs.Common.{refl, Some, sym, ℕ}
+use Rattle.psci_world.specs.Settles.{WorldValue}
 use Rattle.psci_world.specs.psci_board.Board.{BoardValue}
 use Rattle.psci_world.specs.psci_world_spec.Legal.{legal_record}
 use Rattle.psci_world.specs.psci_world_spec.declared.event.Event.{Event}
 use Rattle.psci_world.specs.psci_world_spec.declared.said.Record.{Record}
-use Rattle.psci_script.specs.Line.{line_of}
+use Rattle.psci_script.specs.EventText.{Answered, line_of}
 use Rattle.psci_script.specs.declared.grammar.Line.TheVariants.{Event as Says}
-use Rattle.psci_script.specs.Answered.{Answered}
-use Rattle.psci_script.specs.ScriptRun.{ScriptRun, with_record}
+use Rattle.psci_script.specs.Told.{EventTold, ScriptRun, with_record}
 use Rattle.psci_script.specs.Text.{said_text}
-use Rattle.psci_script.specs.Told.{EventTold}
-use Rattle.psci_show.specs.declared.form.Form.{Form}
+use Rattle.psci_show.specs.declared.lines.Form.{Form}
 use Rattle.psci_show.specs.Shown.{IsShown, IsShownOf, front}
 
 -- the same record is legal on the same board after the same records

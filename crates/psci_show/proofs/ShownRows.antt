@@ -1,17 +1,18 @@
 -- Worked examples: how a row begins, and what a run is shown as; and for each clause something that
 -- breaks it.
-use Rattle.std.proofs.Common.{◌≡◌, ◌∙◌, ℕ, false, List, [], ◌∷◌, ◌++◌, length, ap, refl, None, Some}
+use Rattle.std.proofs.Common.{◌++◌, ◌∙◌, ◌∷◌, ◌≡◌, [], ap, false, length, List, None, refl, Some}
+use Rattle.std.proofs.Common.{ℕ}
 use Rattle.std.specs.Prelude.{codes, slice_index_or}
 use Rattle.std.specs.Fmt.{decimal, digits}
 use Rattle.psci_script.specs.psci_board.Board.{BoardValue}
 use Rattle.psci_world.specs.psci_world_spec.declared.event.Event.TheVariants.{Take, Wake}
 use Rattle.psci_world.specs.psci_world_spec.declared.said.Record.{Record}
 use Rattle.psci_world.specs.psci_world_spec.declared.said.Said.TheVariants.{Absent, Ignored}
-use Rattle.psci_script.specs.Line.{line_of}
+use Rattle.psci_script.specs.EventText.{line_of}
 use Rattle.psci_script.specs.declared.grammar.Line.TheVariants.{Event as Says}
-use Rattle.psci_script.proofs.Scripts.{reading}
-use Rattle.psci_show.specs.declared.form.Form.{Form}
-use Rattle.psci_show.specs.declared.form.Form.TheVariants.{Lines, Json}
+use Rattle.psci_script.proofs.Cutting.{reading}
+use Rattle.psci_show.specs.declared.lines.Form.{Form}
+use Rattle.psci_show.specs.declared.lines.Form.TheVariants.{Lines, Json}
 use Rattle.psci_show.specs.Shown.{HasRows, IsEventRow, IsHeading, IsShown, front, number_text}
 use Rattle.psci_script.proofs.Tables.{◌⇒◌, Gives}
 use Rattle.std.proofs.lemmas.Bool.{eqb-false}

@@ -1,20 +1,21 @@
 -- What a run is shown as: a row for each event, in order. Defined is how a row begins: with the
 -- number of its event, and in JSON with the event and its answer. What else it says of the event,
 -- its words and columns, is tested.
-use Rattle.std.specs.Prelude.{◌≡◌, ℕ, false, List, [], ◌∷◌, ◌++◌, codes, length, nat_lt}
-use Rattle.std.specs.Prelude.{Option, None, Some, if◌then◌else◌}
+use Rattle.std.specs.Prelude.{◌++◌, ◌∷◌, ◌≡◌, [], codes, false, if◌then◌else◌, length, List}
+use Rattle.std.specs.Prelude.{nat_lt, None, Option, Some, ℕ}
 use Rattle.std.specs.Fmt.{decimal}
 use Rattle.psci_world.specs.psci_world_spec.declared.event.Event.{Event}
-use Rattle.psci_world.specs.psci_world_spec.declared.event.Event.TheVariants.{Call, Enter, Wake}
-use Rattle.psci_world.specs.psci_world_spec.declared.event.Event.TheVariants.{Reset, Deliver, Take}
-use Rattle.psci_world.specs.Seen.{WorldValue}
+use Rattle.psci_world.specs.psci_world_spec.declared.event.Event.TheVariants.{Call, Deliver}
+use Rattle.psci_world.specs.psci_world_spec.declared.event.Event.TheVariants.{Enter, Reset, Take}
+use Rattle.psci_world.specs.psci_world_spec.declared.event.Event.TheVariants.{Wake}
+use Rattle.psci_world.specs.Settles.{WorldValue}
 use Rattle.psci_world.specs.psci_world_spec.declared.said.Record.{Record}
-use Rattle.psci_script.specs.Line.{line_of}
+use Rattle.psci_script.specs.EventText.{line_of}
 use Rattle.psci_script.specs.declared.grammar.Line.TheVariants.{Event as Says}
-use Rattle.psci_script.specs.ScriptRun.{ScriptRun}
+use Rattle.psci_script.specs.Told.{ScriptRun}
 use Rattle.psci_script.specs.Text.{answer_line, hexadecimal}
-use Rattle.psci_show.specs.declared.form.Form.{Form}
-use Rattle.psci_show.specs.declared.form.Form.TheVariants.{Lines, Json}
+use Rattle.psci_show.specs.declared.lines.Form.{Form}
+use Rattle.psci_show.specs.declared.lines.Form.TheVariants.{Lines, Json}
 
 -- a number in four places, or more where it needs them
 abbrev pub number_text : ℕ → List ℕ

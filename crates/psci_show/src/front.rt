@@ -7,8 +7,7 @@ ghost use Rattle.psci_show.specs.Shown.{event_object, front, object_start};
 
 use crate::answer::put_answer;
 use crate::event_object::write_event_object;
-use crate::form::Form;
-use crate::lines::put;
+use crate::lines::{Form, put};
 use crate::run::Run;
 use psci_world::{Event, Record};
 use std::alloc::AllocError;

@@ -14,26 +14,14 @@
 
 mod answer;
 mod call;
-mod depth;
-mod domain;
-mod entries;
 mod event_json;
 mod event_object;
-mod form;
 mod front;
-mod json;
-mod legend;
 mod lines;
-mod message;
-mod message_json;
-mod names;
-mod row;
 mod run;
 mod showing;
-mod sleep;
 mod state;
 mod words;
-mod wrap;
 
-pub use form::{Form, Layout};
+pub use lines::{Form, Layout};
 pub use showing::show;

@@ -1,15 +1,13 @@
 //! An event in lines: its number and its columns, and behind or below them what was asked and what
 //! was answered.
 
-ghost use Rattle.std.specs.Prelude.{◌≡◌, ◌≤◌, ◌++◌, [], OnOk, string_bytes};
+ghost use Rattle.std.specs.Prelude.{◌++◌, ◌<◌, ◌^◌, ◌≡◌, ◌≤◌, [], OnOk, string_bytes};
+ghost use Rattle.psci_world.specs.psci_board.Board.{height};
 
-use crate::entries::write_entries;
-use crate::form::Layout;
-use crate::row::{row_width, write_row};
 use crate::run::Run;
+use crate::state::{Activity, write_entries};
 use crate::words::{write_asked, write_said};
-use crate::wrap::{write_spaces, write_wrapped};
-use psci_world::Record;
+use psci_world::{Board, Core, Node, Record};
 use std::alloc::AllocError;
 
 /// How many columns stand before a row: four for the number, and two spaces.
@@ -108,4 +106,124 @@ pub fn write_lines(
     } else {
         write_above(out, text, run, item, layout)
     }
+}
+
+// How a run is shown.
+
+/// Lines of a width.
+#[derive(Clone, Copy)]
+pub struct Layout {
+    /// How many columns a line has; fewer than 40 are taken for 40.
+    pub width: u16,
+    /// Whether the letters of the cores are colored.
+    pub color: bool,
+    /// Whether the lines begin with what letters and depths mean.
+    pub legend: bool,
+}
+
+/// How a run is shown.
+#[derive(Clone, Copy)]
+pub enum Form {
+    /// To people: lines of words and columns.
+    Lines(Layout),
+    /// To programs: an object for the board, and one for each event.
+    Json,
+}
+
+// The columns after an event, in a row.
+
+/// Writes the letter of a state.
+fn write_letter(out: &mut String, state: Activity, color: bool) -> Result<(), AllocError> {
+    let told = state.told();
+    let letter = told.letter;
+    if color {
+        write!(out, "\x1b[{}m{letter}\x1b[0m", told.color)
+    } else {
+        write!(out, "{letter}")
+    }
+}
+
+/// Writes the letter of each core.
+fn write_letters(out: &mut String, run: &Run, color: bool) -> Result<(), AllocError> {
+    for number in 0..run.world().board().cores() {
+        write_letter(out, run.state(Core { number }), color)?;
+    }
+    Ok(())
+}
+
+/// Writes the depths of each power domain of a level.
+fn write_level(out: &mut String, run: &Run, level: u32) -> Result<(), AllocError>
+    requires { level ≤ height run.now.board }
+{
+    write!(out, " ")?;
+    for place in 0..run.world().board().nodes(level) {
+        let depths = run.depths(Node { level, place });
+        write!(out, " {depths}")?;
+    }
+    Ok(())
+}
+
+/// Writes a letter for each core, and the depths level by level from the cores up.
+pub fn write_row(out: &mut String, run: &Run, color: bool) -> Result<(), AllocError> {
+    write_letters(out, run, color)?;
+    for level in 0..run.world().board().height() + 1 {
+        write_level(out, run, level)?;
+    }
+    Ok(())
+}
+
+/// How wide a row is.
+pub fn row_width(board: &Board) -> usize
+    ensures { result < 2 ^ 60 }
+{
+    let mut width = usize::from(board.cores());
+    for level in 0..board.height() + 1 {
+        width += 3 * usize::from(board.nodes(level)) + 1;
+    }
+    width
+}
+
+// Text in lines of a width.
+
+/// Writes this many spaces.
+pub fn write_spaces(out: &mut Vec<u8>, count: usize) -> Result<(), AllocError> {
+    for _done in 0..count {
+        out.push(b' ')?;
+    }
+    Ok(())
+}
+
+/// Where this byte is first, if it is there.
+fn word_end(at: u8, text: &[u8]) -> Option<usize> {
+    text.iter().position(|byte| *byte == at)
+}
+
+/// How long the word at the front is, which ends before this byte.
+fn word_length(at: u8, text: &[u8]) -> usize {
+    word_end(at, text).unwrap_or(text.len())
+}
+
+/// Writes a text that stands behind an indent, in lines with room for so many bytes, and a line
+/// feed. It is broken at this byte alone, where the next word has no room; a space stands in the
+/// place of each other such byte.
+pub fn write_wrapped(
+    out: &mut Vec<u8>,
+    text: &[u8],
+    at: u8,
+    indent: usize,
+    room: usize,
+) -> Result<(), AllocError> {
+    let mut column: usize = 0;
+    for (index, byte) in text.iter().enumerate() {
+        if *byte == at && column.saturating_add(word_length(at, &text[index + 1..])) >= room {
+            out.push(b'\n')?;
+            write_spaces(out, indent)?;
+            column = 0;
+        } else {
+            out.push(if *byte == at { b' ' } else { *byte })?;
+            column += 1;
+        }
+    }
+    out.push(b'\n')?;
+    Ok(())
 }

@@ -1,8 +1,7 @@
 //! A world, and what is known beside it to say its records in words.
 
-use crate::depth::Depths;
-use crate::sleep::{Sleep, note};
-use crate::state::Activity;
+use crate::state::{Activity, Depths};
+use crate::words::{Sleep, note};
 use psci_state::POWER_DOWN;
 use psci_world::{Board, Core, Event, Memory, Node, Record, Said, World};
 use std::alloc::{AllocError, Global};
@@ -20,7 +19,7 @@ pub struct Run {
 }
 
 impl Model for Run {
-    ghost use Rattle.psci_world.specs.Seen.{WorldValue};
+    ghost use Rattle.psci_world.specs.Settles.{WorldValue};
 
     ghost Value = { WorldValue };
 

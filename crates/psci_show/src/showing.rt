@@ -1,19 +1,17 @@
 //! Scripts, shown event by event.
 
-ghost use Rattle.std.specs.Prelude.{◌≡◌, ◌++◌, ℕ, List, [], None, false, length, IfErr, OnOk};
-ghost use Rattle.std.specs.Prelude.{string_bytes};
+ghost use Rattle.std.specs.Prelude.{◌++◌, ◌≡◌, [], false, IfErr, length, List, None, OnOk};
+ghost use Rattle.std.specs.Prelude.{string_bytes, ℕ};
 ghost use Rattle.psci_script.specs.Progress.{OnlyGivenUp};
 ghost use Rattle.psci_script.specs.Text.{said_text};
 ghost use Rattle.psci_script.specs.Told.{Tells};
 ghost use Rattle.psci_show.specs.Shown.{IsHeading, IsShown, front};
 
-use crate::event_json::write_event;
-use crate::form::Form;
+use crate::event_json::{write_board, write_event};
 use crate::front::write_front;
-use crate::json::write_board;
-use crate::legend::write_legend;
-use crate::lines::{put, write_lines};
+use crate::lines::{Form, put, write_lines};
 use crate::run::Run;
+use crate::state::write_legend;
 use psci_script::{Answers, Event, ReplayFault, Replayed, Sink, Source, Teller, literal, tell};
 use psci_world::{Board, Memory, Record};
 use std::alloc::{AllocError, Global};

@@ -1,10 +1,12 @@
 //! Events and their answers, in words.
 
-use crate::call::write_call;
-use crate::message::{write_message, write_sent};
-use crate::names::returned_name;
+use crate::call::{kind_name, returned_name, write_call};
+use crate::event_json::write_shares;
 use crate::run::Run;
-use psci_world_spec::{Ack, Act, Code, Event, Record, Request, Said, Sent, Taken, read};
+use psci_world::Message;
+use psci_world_spec::{
+    Ack, Act, Code, Event, Kind, Part, Record, Request, Said, Sent, Taken, read,
+};
 use std::alloc::AllocError;
 
 /// Writes what the message of this number is, if there is one.
@@ -128,4 +130,107 @@ pub fn write_said(out: &mut String, run: &Run, item: &Record) -> Result<(), Allo
         Said::Ignored => write!(out, "ignored: it cannot happen now"),
         Said::Absent => write!(out, "absent: no such number"),
     }
+}
+
+// Messages, in words.
+
+/// The depth that the parts ask of a level, 0 where they ask none.
+pub fn depth_at(parts: &[Part], level: usize) -> u8 {
+    parts.get(level).map(|part| part.depth).unwrap_or(0)
+}
+
+/// The depths that the parts ask of the levels from 0 to 3.
+fn depths_of(parts: &[Part]) -> [u8; 4] {
+    [
+        depth_at(parts, 0),
+        depth_at(parts, 1),
+        depth_at(parts, 2),
+        depth_at(parts, 3),
+    ]
+}
+
+/// Writes what the message of a number is, if there is one, and its core.
+pub fn write_message(
+    out: &mut String,
+    number: u64,
+    message: Option<&Message>,
+) -> Result<(), AllocError> {
+    let Some(message) = message else {
+        return write!(out, "message {number}");
+    };
+    write!(out, "{} #{number}", kind_name(message.kind))?;
+    match message.kind {
+        Kind::Down | Kind::Start => write!(out, " of core {}", message.core.number),
+        Kind::Off | Kind::Reset => Ok(()),
+    }
+}
+
+/// Writes a message that is sent on a board of this height, with what it asks for.
+pub fn write_sent(out: &mut String, height: u32, sent: &Sent) -> Result<(), AllocError> {
+    let message = &sent.message;
+    write!(out, "{} #{}", kind_name(message.kind), sent.index)?;
+    match message.kind {
+        Kind::Down => {
+            write!(out, ": ")?;
+            write_shares(out, height, depths_of(message.parts.as_slice()))
+        }
+        Kind::Start => write!(out, " of core {}", message.core.number),
+        Kind::Off | Kind::Reset => Ok(()),
+    }
+}
+
+// Which cores are suspended, and how deep.
+
+/// A suspended core: what it asked of itself, and in which life.
+#[derive(Clone, Copy)]
+pub struct Sleep {
+    /// 1 standby, 2 retention, 3 power-down.
+    pub depth: u8,
+    /// The life.
+    pub life: u32,
+}
+
+/// The sleep of each core after this record, by those before it. Before any record no core has one.
+pub fn note(sleeps: &mut [Option<Sleep>], item: &Record) {
+    let Said::Fw { act, sent } = &item.said else {
+        return;
+    };
+    match &item.event {
+        Event::Call(core, regs) => {
+            set(sleeps, *core, sleep_by(read(*regs), act, sent.as_ref()));
+        }
+        Event::Enter(core) => set(sleeps, *core, None),
+        Event::Wake(_) | Event::Reset(_) | Event::Deliver(_) | Event::Take(_) => {}
+    }
+}
+
+/// Sets the sleep of the core of this number, if there is one.
+fn set(sleeps: &mut [Option<Sleep>], core: u64, sleep: Option<Sleep>) {
+    let place = core as usize;
+    if place < sleeps.len() {
+        sleeps[place] = sleep;
+    }
+}
+
+/// Whether a function suspends its caller.
+fn is_suspend(request: Request) -> bool {
+    matches!(
+        request,
+        Request::CpuSuspend { .. } | Request::SystemSuspend { .. }
+    )
+}
+
+/// The sleep that a call leaves.
+fn sleep_by(request: Request, act: &Act, sent: Option<&Sent>) -> Option<Sleep> {
+    let Act::Stop = act else {
+        return None;
+    };
+    if !is_suspend(request) {
+        return None;
+    }
+    let message = &sent?.message;
+    Some(Sleep {
+        depth: depth_at(message.parts.as_slice(), 0),
+        life: message.life,
+    })
 }

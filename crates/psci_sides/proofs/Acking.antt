@@ -1,38 +1,123 @@
 -- The end of a message is taken.
-use Rattle.std.proofs.Common.{◌<◌, ◌==◌, ◌∙◌, ◌++◌, ◌≡◌, ◌≤◌, ◌⊎◌, ap, arith}
-use Rattle.std.proofs.Common.{Bool, cond, false, inl, inr, List, None, Option, refl, Some, subst}
-use Rattle.std.proofs.Common.{sym, true, ℕ}
-use Rattle.std.specs.Prelude.{◌&&◌}
+use Rattle.std.proofs.Common.{◌++◌, ◌<◌, ◌∙◌, ◌≡◌, ◌≤◌, ◌⊎◌, ap, arith, Bool, cond, List, None}
+use Rattle.std.proofs.Common.{Option, refl, Some, subst, sym, true, ℕ}
 use Rattle.std.proofs.lemmas.Bool.{and_parts, cond-true, eq-eqb, eqb-true}
 use Rattle.std.proofs.lemmas.Bool.Decides.{nat_tests}
+use Rattle.psci_abi.specs.declared.registers.Regs.{Regs}
+use Rattle.psci_abi.specs.declared.request.Request.{Request}
 use Rattle.psci_board.specs.Board.{BoardValue, cores}
-use Rattle.psci_board.specs.declared.node.Core.{Core}
-use Rattle.psci_fw.specs.Seen.{FirmwareValue, seen as remembers}
-use Rattle.psci_fw_spec.specs.After.{after as fw_after}
-use Rattle.psci_fw_spec.specs.Answer.{answer}
-use Rattle.psci_fw_spec.specs.Taking.{taken_by}
-use Rattle.psci_fw_spec.specs.Values.{Values}
-use Rattle.psci_fw_spec.specs.declared.call.FwCall.TheVariants as calls
-use Rattle.psci_fw_spec.specs.declared.reply.FwReply.TheVariants as replies
+use Rattle.psci_board.specs.declared.draft.Core.{Core}
 use Rattle.psci_messages.specs.Message.{AckValue, MessageValue}
-use Rattle.psci_messages.specs.Slots.{OfCore, OfSystem, Slot, answers, is_done, is_kind, is_slot}
-use Rattle.psci_messages.specs.Slots.{left_by, slot_of, taken}
+use Rattle.psci_messages.specs.Slots.{answers, changed, is_kind, is_slot, left_by, OfCore, OfSystem}
+use Rattle.psci_messages.specs.Slots.{Put, Slot, slot_of, taken}
 use Rattle.psci_messages.specs.declared.kind.Kind.{Kind}
+use Rattle.psci_messages.specs.declared.kind.Kind.TheVariants as kinds
+use Rattle.psci_messages.specs.declared.start.Start.{Start}
 use Rattle.psci_messages.specs.declared.taken.Taken.{Taken}
 use Rattle.psci_messages.specs.declared.taken.Taken.TheVariants as takings
-use Rattle.psci_port.specs.Port.{Act, Finishes, Port, Takes, state, step}
-use Rattle.psci_port.specs.Resting.{core_left}
-use Rattle.psci_port.proofs.Staying.{takes_left}
-use Rattle.psci_port.proofs.Sums.{same_le, total_le}
+use Rattle.psci_fw_spec.specs.Effects.{after, after as fw_after, change, enter_effect}
+use Rattle.psci_fw_spec.specs.Effects.{function_effect}
+use Rattle.psci_fw_spec.specs.Answer.{answer, enter_fault, enter_outcome, outcome_at, reply_or}
+use Rattle.psci_fw_spec.specs.Changes.{with_arrival}
+use Rattle.psci_fw_spec.specs.PowerCalls.{stops}
+use Rattle.psci_fw_spec.specs.Values.{taken_by, Values}
+use Rattle.psci_fw_spec.specs.declared.call.FwCall.TheVariants as calls
+use Rattle.psci_fw_spec.specs.declared.fault.FwFault.{FwFault}
+use Rattle.psci_fw_spec.specs.declared.opening.Opening.{Opening}
+use Rattle.psci_fw_spec.specs.declared.outcome.Act.{Act as Outcome}
+use Rattle.psci_fw_spec.specs.declared.outcome.Act.TheVariants as acts
+use Rattle.psci_fw_spec.specs.declared.outcome.Outcome.{Outcome as Ending}
+use Rattle.psci_fw_spec.specs.declared.reply.FwReply.{FwReply}
+use Rattle.psci_fw_spec.specs.declared.reply.FwReply.TheVariants as replies
+use Rattle.psci_port.specs.Port.{Act, Port, state}
+use Rattle.psci_port.proofs.Powering.{takes_left}
+use Rattle.psci_port.proofs.Truth.{same_le, total_le}
+use Rattle.psci_fw.specs.Reactions.{FirmwareValue, seen as remembers}
 use Rattle.psci_enter.specs.Side.{IsAsked}
-use Rattle.psci_sides.specs.Frames.{IsOut, is_end_of}
+use Rattle.psci_sides.specs.Frames.{is_end_of, IsOut}
 use Rattle.psci_sides.specs.Machine.{Machine}
 use Rattle.psci_sides.specs.Steps.{May, TakeAck}
-use Rattle.psci_sides.proofs.Given.{Follows, Given, IsSeen}
+use Rattle.psci_sides.proofs.Carrying.{Follows, Given, IsSeen}
 use Rattle.psci_sides.proofs.Locking.{has_lock}
-use Rattle.psci_sides.proofs.Owing.{Owes, OwesNext, Pays, pays_later}
-use Rattle.psci_sides.proofs.Paying.{pays_core, pays_system}
+use Rattle.psci_sides.proofs.Quietly.{Owes, OwesNext, Pays, pays_later}
+use Rattle.psci_sides.proofs.Visiting.{pays_core, pays_system}
 use Rattle.psci_sides.proofs.Settling.{weight}
+
+-- What the end of a call leaves outstanding: what was, nothing, or what it sends ------------------
+
+-- what is in a slot: what was, nothing, or this message
+abbrev pub IsLeftBy : Option MessageValue → Option MessageValue → Option MessageValue → Type 0
+IsLeftBy message before now = (now ≡ before) ⊎ ((now ≡ None)
+    ⊎ ((x : MessageValue) × ((message ≡ Some x) × (now ≡ Some x))))
+
+-- what a reply has sent
+abbrev pub message_in : FwReply → Option MessageValue
+message_in (replies.Out o) = o.message
+message_in (replies.Taken t) = None
+message_in (replies.Fault f) = None
+
+-- Calls ------------------------------------------------------------------------------------------
+
+module _ (b : BoardValue) (v : Values) (c : ℕ) (slot : Slot) where
+  function_out : (request : Request) (act : Outcome) (message : Option MessageValue)
+      → IsLeftBy message (v.outstanding slot)
+      ((change b (function_effect b c request act message) v).outstanding slot)
+  function_out request act message = grind (arith, nat_tests)
+
+  -- what the end of a call leaves in a slot
+  pub call_out : (regs : Regs) (r : FwReply)
+      → IsLeftBy (message_in r) (v.outstanding slot)
+      ((after b c (calls.Smc regs) r v).outstanding slot)
+  unfolding after
+  call_out regs r = grind (arith, nat_tests, function_out)
+
+  -- Entries --------------------------------------------------------------------------------------
+
+  module _ (s : Start) where
+    arrived : ((with_arrival b c s v).outstanding slot ≡ v.outstanding slot)
+        ⊎ ((with_arrival b c s v).outstanding slot ≡ None)
+    arrived = grind (arith, nat_tests)
+
+    gone_or_same : (message : Option MessageValue)
+        → IsLeftBy message (v.outstanding slot) ((with_arrival b c s v).outstanding slot)
+    gone_or_same message = grind (arith, nat_tests, arrived)
+
+    parked : (m : MessageValue) → IsLeftBy (Some m) (v.outstanding slot)
+        (changed slot (Put m) ((with_arrival b c s v).outstanding slot))
+    parked m = grind (arith, nat_tests)
+
+    enter_act_out : (act : Outcome) (message : Option MessageValue)
+        → IsLeftBy message (v.outstanding slot)
+        ((change b (enter_effect c s act message) v).outstanding slot)
+    enter_act_out act message = grind (arith, nat_tests, gone_or_same, parked)
+
+    -- what the end of an entry leaves in a slot
+    pub entry_out : (r : FwReply) → IsLeftBy (message_in r) (v.outstanding slot)
+        ((after b c (calls.Enter s) r v).outstanding slot)
+    unfolding after
+    entry_out r = grind (arith, nat_tests, enter_act_out)
+
+-- an entry sends nothing but a Down
+module _ (b : BoardValue) (v : Values) (c : ℕ) (s : Start) (x : MessageValue) where
+  down_by : (parks : Bool) (found : Values) (m : MessageValue) → m.kind ≡ kinds.Down
+      → (cond {A = Ending} parks (record { act = acts.Resume; message = None })
+      (record { act = acts.Stop; message = Some m })).message ≡ Some x → x.kind ≡ kinds.Down
+  down_by parks found m down e = grind (arith, nat_tests)
+
+  outcome_down : (halts : Bool) (found : Values) (o : Option Opening)
+      → (cond halts stops (outcome_at b found (with_arrival b c s v) c s o)).message ≡ Some x
+      → x.kind ≡ kinds.Down
+  outcome_down halts found o e = grind (arith, nat_tests, down_by)
+
+  reply_down : (fault : Option FwFault) → message_in (reply_or fault (enter_outcome b v c s))
+      ≡ Some x
+      → x.kind ≡ kinds.Down
+  unfolding enter_outcome
+  reply_down fault e = grind (arith, nat_tests, outcome_down)
+
+  pub entry_down : message_in (answer b v c (calls.Enter s)) ≡ Some x → x.kind ≡ kinds.Down
+  unfolding answer
+  entry_down e = reply_down (enter_fault b v c s) e
 
 -- What it leaves of the firmware -----------------------------------------------------------------
 
@@ -41,13 +126,7 @@ IsLessOf before now = (now ≡ before) ⊎ (now ≡ None)
 
 left_less : (a : AckValue) (t : Bool) (o : Option MessageValue)
     → IsLessOf o (cond t (left_by a o) o)
-left_less a false o = inl refl
-left_less a true None = inl refl
-left_less a true (Some m) = by (answers a m && is_done a m)
-  where
-    by : (t : Bool) → IsLessOf (Some m) (cond t None (Some m))
-    by true = inr refl
-    by false = inl refl
+left_less a t o = grind (arith, nat_tests)
 
 module _ (b : BoardValue) (v : Values) (c : ℕ) (a : AckValue) where
   abbrev now : Values
@@ -56,9 +135,7 @@ module _ (b : BoardValue) (v : Values) (c : ℕ) (a : AckValue) where
   less_by : (t : Taken) (slot : Slot) → IsLessOf (v.outstanding slot)
       ((fw_after b c (calls.Take a) (replies.Taken t) v).outstanding slot)
   unfolding fw_after
-  less_by takings.Used slot = left_less a (is_slot (slot_of a.kind a.core) slot)
-      (v.outstanding slot)
-  less_by takings.Old slot = inl refl
+  less_by t slot = grind (arith, nat_tests, left_less)
 
   ack_less : (slot : Slot) → IsLessOf (v.outstanding slot) (now.outstanding slot)
   unfolding answer
@@ -91,11 +168,7 @@ slot_same k l c d kind core = grind (arith, nat_tests)
 -- an acknowledgement goes to the slot of its message
 same_slot : (a : AckValue) (x : MessageValue) → is_end_of a x ≡ true
     → slot_of a.kind a.core ≡ slot_of x.kind x.core
-same_slot a x end =
-    let own = and_parts (answers a x) (is_done a x) end in
-    let kind = and_parts (is_kind a.kind x.kind) _ own.0 in
-    slot_same a.kind x.kind a.core x.core kind.0
-    (eqb-true _ _ (and_parts (a.core.number == x.core.number) _ kind.1).0)
+same_slot a x end = grind (arith, nat_tests, and_parts, slot_same, eqb-true)
 
 -- The machine ------------------------------------------------------------------------------------
 
@@ -114,39 +187,18 @@ module _ (b : BoardValue) (given : Given b) (m : Machine) (acts : List Act)
 
     weight_less : weight b (next.0 ++ acts) ≤ weight b acts
     unfolding state
-    weight_less = elim next.1 [
-      | inl e ↦ subst (λ l. weight b (l ++ acts) ≤ weight b acts) (sym e)
-          (omega arith)
-      | inr some ↦ subst (λ l. weight b (l ++ acts) ≤ weight b acts)
-          (sym some.1.1) (
-          let low = total_le (core_left p)
-          (core_left (step b (step b p (Takes c some.0 some.1.0)) (Finishes c))) (cores b)
-          (λ d within. same_le _ _ (takes_left b p c some.0 some.1.0
-          (has_lock b given m acts seen c may.0) d)) in omega (arith, low))
-    ]
+    weight_less = grind (arith, nat_tests, weight, total_le, same_le, takes_left, has_lock)
 
     out_less : (slot : Slot) → IsLessOf ((remembers m.firmware).outstanding slot)
         ((remembers g).outstanding slot)
-    out_less slot = subst (λ (v : Values). IsLessOf ((remembers m.firmware).outstanding slot)
-        (v.outstanding slot)) (sym asked.values)
-        (ack_less m.firmware.board (remembers m.firmware) c a slot)
+    out_less slot = grind (arith, nat_tests, ack_less)
 
     still_pays : (o l : Option MessageValue) (n : ℕ) → IsLessOf o l → Pays b m o n
         → Pays b left_machine l n
-    still_pays o l n less pays = elim less [
-      | inl e ↦ subst (λ l. Pays b left_machine l n) (sym e)
-          (pays_later b m left_machine o n (λ y e i. i) (λ y e u. u) (λ y e. omega arith) pays)
-      | inr e ↦ subst (λ l. Pays b left_machine l n) (sym e) tt
-    ]
+    still_pays o l n less pays = grind (arith, nat_tests, pays_later)
 
     some_pays : (x : MessageValue) (n : ℕ) → Pays b m (Some x) n → 1 ≤ n
-    some_pays x n pays = elim pays [
-      | inl e ↦ e.1
-      | inr other ↦ elim other [
-        | inl u ↦ let low = u.1 in omega (arith, low)
-        | inr low ↦ omega (arith, low)
-      ]
-    ]
+    some_pays x n pays = grind (arith, nat_tests)
 
     taken_by_slot : (x : MessageValue) (slot : Slot) → slot_of x.kind x.core ≡ slot
         → x.core.number < cores b → (remembers m.firmware).outstanding slot ≡ Some x

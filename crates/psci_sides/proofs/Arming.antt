@@ -1,14 +1,15 @@
 -- A core says that it stands with its WFI still to come, comes there, and is brought back.
-use Rattle.std.proofs.Common.{◌<◌, ◌∙◌, ◌∷◌, ◌≡◌, [], ap, Bool, cond, false, inl, inr}
-use Rattle.std.proofs.Common.{List, None, refl, subst, sym, true, ℕ}
+use Rattle.std.proofs.Common.{arith}
+use Rattle.std.proofs.lemmas.Bool.Decides.{nat_tests}
+use Rattle.std.proofs.Common.{◌<◌, ◌∙◌, ◌∷◌, ◌≡◌, [], ap, Bool, cond, false, inl, List, None, refl}
+use Rattle.std.proofs.Common.{subst, sym, true, ℕ}
 use Rattle.std.proofs.lemmas.Bool.{false≢true}
-use Rattle.psci_board.specs.Board.{BoardValue, cores}
-use Rattle.psci_board.specs.Paths.{is_on_path}
-use Rattle.psci_port.specs.Port.{Act, Arms, Port, Rouses, Row, Sleeps, Turns}
-use Rattle.psci_port.specs.Port.{stage_at, state, step, stopping}
+use Rattle.psci_board.specs.Board.{BoardValue, cores, is_on_path}
+use Rattle.psci_port.specs.Port.{Act, Arms, Port, Rouses, Row, Sleeps, stage_at, state, step}
+use Rattle.psci_port.specs.Port.{stopping, Turns}
 use Rattle.psci_port.specs.Stages as stages
 use Rattle.psci_port.specs.Stages.{Stage, has_stopped, roused_at}
-use Rattle.psci_port.proofs.Keeping.{IsKept}
+use Rattle.psci_port.proofs.Locks.{IsKept}
 use Rattle.psci_port.proofs.Running.{run_kept}
 use Rattle.psci_control.proofs.Apart.{apart_side}
 use Rattle.psci_enter.specs.declared.post.Post.TheVariants.{Armed, Waiting}
@@ -18,26 +19,20 @@ use Rattle.psci_enter.specs.SideOf.{Fits}
 use Rattle.psci_enter.proofs.Keeping.{quiet_firmware}
 use Rattle.psci_enter.proofs.Standing.{arms, rouses, row_same, sleeps, turns}
 use Rattle.psci_sides.specs.Machine.{Machine, has_stood, side_of}
-use Rattle.psci_sides.specs.Steps.{ArmCore, May, RouseCore, SleepCore, TurnCore}
-use Rattle.psci_sides.specs.Steps.{Lacks, after, elsewhere, roused}
+use Rattle.psci_sides.specs.Steps.{after, ArmCore, elsewhere, Lacks, May, RouseCore, roused}
+use Rattle.psci_sides.specs.Steps.{SleepCore, TurnCore}
 use Rattle.psci_sides.specs.Seen.{IsCoreOf, IsLent, IsMachineOf, sleep_act}
-use Rattle.psci_sides.proofs.Around.{its_side, one_core, stood_stopped, stopped_stood}
-use Rattle.psci_sides.proofs.Commanding.{is_within, lent_none, looks_out}
-use Rattle.psci_sides.proofs.Given.{Follows, Given, IsSeen, one_act}
+use Rattle.psci_sides.proofs.Commanding.{is_within, its_side, lent_none, looks_out, one_core}
+use Rattle.psci_sides.proofs.Commanding.{stood_stopped, stopped_stood}
+use Rattle.psci_sides.proofs.Carrying.{Follows, Given, IsSeen, one_act}
 use Rattle.psci_sides.proofs.Locking.{none_lent}
 
 -- where an armed core is, by whether it stands
 pub armed_stands : (y : Stage) → Fits Armed y → has_stopped y ≡ true → y ≡ stages.Armed
-armed_stands y fits stopped = elim fits [
-  | inl at ↦ at
-  | inr at ↦ absurd (false≢true (sym (ap has_stopped at) ∙ stopped))
-]
+armed_stands y fits stopped = grind (arith, nat_tests)
 
 armed_started : (y : Stage) → Fits Armed y → (has_stopped y ≡ true → ⊥) → y ≡ stages.Woken
-armed_started y fits not = elim fits [
-  | inl at ↦ absurd (not (ap has_stopped at))
-  | inr at ↦ at
-]
+armed_started y fits not = grind (arith, nat_tests)
 
 module _ (b : BoardValue) (given : Given b) (m : Machine) (acts : List Act)
     (seen : IsSeen b m acts) where
@@ -56,17 +51,7 @@ module _ (b : BoardValue) (given : Given b) (m : Machine) (acts : List Act)
       → r.stopped ≡ (p.row c).stopped → r.held ≡ (p.row c).held → r.begun ≡ (p.row c).begun
       → is_within (stage_at p c) ≡ false → Fits s.post r.stage
       → IsCoreOf c s (m.station c) r
-  core_at c s r has used u opened door word held begun out fits =
-      let was = is.each c has in record {
-        used = used ∙ was.used ∙ sym u;
-        post = fits;
-        opened = was.opened ∙ sym opened;
-        start = was.start ∙ sym door;
-        word = was.word ∙ sym word;
-        held = was.held ∙ sym held;
-        lent = subst (λ o. IsLent c s.post (m.station c).lent o) (sym begun)
-            (none_lent b given m acts seen c has s.post out);
-      }
+  core_at c s r has used u opened door word held begun out fits = grind (arith, nat_tests)
 
   -- It says that it stands -----------------------------------------------------------------------
 
@@ -124,11 +109,7 @@ module _ (b : BoardValue) (given : Given b) (m : Machine) (acts : List Act)
 
   pub turns_there : (c : ℕ) → May b m (TurnCore c) → Follows b m acts (TurnCore c)
   unfolding after
-  turns_there c may = (
-    Turns c ∷ [],
-    refl,
-    turned c may.0 may.2 (subst (λ x. Fits x (stage_at p c)) may.1 (is.each c may.0).post),
-  )
+  turns_there c may = grind (arith, nat_tests, turned)
 
   -- It comes to its WFI --------------------------------------------------------------------------
 

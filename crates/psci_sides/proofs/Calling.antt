@@ -1,6 +1,7 @@
 -- Calls of the firmware begin.
-use Rattle.std.proofs.Common.{◌<◌, ◌∷◌, []}
-use Rattle.std.proofs.Common.{length, List, Some, refl, ℕ}
+use Rattle.std.proofs.Common.{arith}
+use Rattle.std.proofs.lemmas.Bool.Decides.{nat_tests}
+use Rattle.std.proofs.Common.{◌<◌, ◌∷◌, [], length, List, refl, ℕ}
 use Rattle.psci_abi.specs.declared.registers.Regs.{Regs}
 use Rattle.psci_board.specs.Board.{BoardValue, cores}
 use Rattle.psci_fw_spec.specs.declared.call.FwCall.{FwCall}
@@ -9,24 +10,21 @@ use Rattle.psci_messages.specs.declared.start.Start.{Start}
 use Rattle.psci_world_spec.specs.declared.event.Event.TheVariants as events
 use Rattle.psci_world_spec.specs.declared.said.Record.{Record}
 use Rattle.psci_world_spec.specs.declared.said.Said.{Said}
-use Rattle.psci_world_spec.specs.Histories.{sent}
-use Rattle.psci_world_spec.specs.Legal.{said_of}
-use Rattle.psci_port.specs.Port.{Act, Calls, Enters, Port, begins}
-use Rattle.psci_port.specs.Port.{state, step}
-use Rattle.psci_port.proofs.Keeping.{IsKept}
+use Rattle.psci_world_spec.specs.Legal.{said_of, sent}
+use Rattle.psci_port.specs.Port.{Act, begins, Calls, Enters, Port, state, step}
+use Rattle.psci_port.proofs.Locks.{IsKept}
 use Rattle.psci_port.proofs.Running.{run_kept}
 use Rattle.psci_control.specs.SideOf as control
 use Rattle.psci_control.proofs.Apart.{apart_side}
 use Rattle.psci_enter.specs.Side.{reply_in}
 use Rattle.psci_enter.specs.SideOf.{IsFirmwareOf}
-use Rattle.psci_enter.proofs.Asking.{calls_so}
+use Rattle.psci_enter.proofs.Ending.{calls_so}
 use Rattle.psci_enter.proofs.Keeping.{quiet_firmware}
-use Rattle.psci_sides.specs.Machine.{Machine, lent_to}
-use Rattle.psci_sides.specs.Machine.{side_of}
+use Rattle.psci_sides.specs.Machine.{lent_to, Machine, side_of}
 use Rattle.psci_sides.specs.Steps.{BeginCall, BeginEntry, May, after}
 use Rattle.psci_sides.specs.Seen.{IsEventOf, IsMachineOf}
-use Rattle.psci_sides.proofs.Around.{its_side, one_core}
-use Rattle.psci_sides.proofs.Given.{Follows, Given, IsSeen, one_act}
+use Rattle.psci_sides.proofs.Commanding.{its_side}
+use Rattle.psci_sides.proofs.Carrying.{Follows, Given, IsSeen, one_act}
 use Rattle.psci_sides.proofs.Locking.{has_lock}
 
 module _ (b : BoardValue) (given : Given b) (m : Machine) (acts : List Act)
@@ -46,25 +44,7 @@ module _ (b : BoardValue) (given : Given b) (m : Machine) (acts : List Act)
       → IsEventOf c (m.side c).post call r.event
       → IsFirmwareOf b m.firmware (begins p c r) → control.IsSideOf b m.control (begins p c r)
       → IsMachineOf b (lent_to m c call) (begins p c r)
-  begun_machine c call r has event firmware ctl =
-      let was = is.each c has in record {
-        each = one_core b m p is.each c (m.side c) (record (m.station c) { lent = Some call })
-            (record (p.row c) { begun = Some r }) (record {
-              used = was.used;
-              post = was.post;
-              opened = was.opened;
-              start = was.start;
-              word = was.word;
-              held = was.held;
-              lent = (r, (refl, event));
-            });
-        firmware = firmware;
-        control = ctl;
-        gates = is.gates;
-        lock = is.lock;
-        mail = is.mail;
-        power = is.power;
-      }
+  begun_machine c call r has event firmware ctl = grind (arith, nat_tests)
 
   pub begins_call : (c : ℕ) (regs : Regs) → May b m (BeginCall c regs)
       → Follows b m acts (BeginCall c regs)

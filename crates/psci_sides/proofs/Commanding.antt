@@ -1,67 +1,180 @@
 -- What is left of a machine and its port, once the power controller was asked and its orders are
 -- carried out.
-use Rattle.std.proofs.Common.{◌<◌, ◌==◌, ◌∙◌, ◌≡◌, ap, Bool, cond, false, inl, inr, length}
-use Rattle.std.proofs.Common.{List, Option, None, Some, refl, subst, sym, true, ℕ}
-use Rattle.std.proofs.lemmas.Bool.{eqb-true, false≢true}
+use Rattle.std.proofs.Common.{arith}
+use Rattle.std.proofs.lemmas.Bool.Decides.{nat_tests}
+use Rattle.std.specs.Prelude.{slice_set}
+use Rattle.std.proofs.Common.{◌++◌, ◌<◌, ◌==◌, ◌∙◌, ◌∷◌, ◌≡◌, ◌⊎◌, ap, Bool, cond, false}
+use Rattle.std.proofs.Common.{get_or-set_other, get_or-set_same, inl, inr, length, List, None}
+use Rattle.std.proofs.Common.{Option, refl, Some, subst, sym, true, ℕ}
+use Rattle.std.proofs.lemmas.Bool.{cases_eq, eq-eqb, eqb-true, false≢true}
 use Rattle.std.proofs.lemmas.Option.{none-some}
 use Rattle.psci_board.specs.Board.{BoardValue, cores}
 use Rattle.psci_messages.specs.Message.{AckValue, MessageValue}
 use Rattle.psci_messages.specs.declared.start.Cause.{Cause}
+use Rattle.psci_ctl_spec.specs.Replies.{Begins, Deepens, Effect, effect_of, Ends, Nothing, reply}
+use Rattle.psci_ctl_spec.specs.Replies.{Starts}
+use Rattle.psci_ctl_spec.specs.History.{MayFollow}
+use Rattle.psci_ctl_spec.specs.Values.{Values}
 use Rattle.psci_ctl_spec.specs.declared.call.CtlCall.{CtlCall}
 use Rattle.psci_ctl_spec.specs.declared.delivery.Delivery.TheVariants as deliveries
-use Rattle.psci_ctl_spec.specs.declared.kick.Kick.TheVariants as kicks
 use Rattle.psci_ctl_spec.specs.declared.reply.CtlReply.{CtlReply}
 use Rattle.psci_ctl_spec.specs.declared.reply.CtlReply.TheVariants as replies
-use Rattle.psci_ctl_spec.specs.Effects.{Effect, Nothing, Starts, Deepens, Ends, Begins, effect_of}
-use Rattle.psci_ctl_spec.specs.Follows.{MayFollow}
-use Rattle.psci_ctl_spec.specs.Replies.{reply}
-use Rattle.psci_ctl_spec.specs.Values.{Values}
-use Rattle.psci_fw.specs.Seen.{FirmwareValue}
+use Rattle.psci_fw_spec.specs.Effects.{listed}
 use Rattle.psci_fw_spec.specs.declared.call.FwCall.{FwCall}
 use Rattle.psci_fw_spec.specs.declared.call.FwCall.TheVariants as calls
+use Rattle.psci_world_spec.specs.Legal as world
+use Rattle.psci_world_spec.specs.Legal.{acks, indexed, said_by, sent, sent_in}
 use Rattle.psci_world_spec.specs.declared.event.Event.{Event}
 use Rattle.psci_world_spec.specs.declared.said.Record.{Record}
-use Rattle.psci_world_spec.specs.Histories.{acks}
-use Rattle.psci_world_spec.specs.Histories as world
-use Rattle.psci_world_spec.specs.Legal.{said_by}
-use Rattle.psci_port.specs.Port.{Port, blank, first_row, held_by, moved, row_by, stage_at}
-use Rattle.psci_port.specs.Port.{started}
-use Rattle.psci_port.specs.Stages.{stage_by}
+use Rattle.psci_headline.proofs.Serving.{numbered_new, numbered_old}
+use Rattle.psci_port.specs.Port.{first_row, held_by, moved, Port, Row, row_by, stage_at, started}
+use Rattle.psci_port.specs.Port.{words}
 use Rattle.psci_port.specs.Stages as stages
-use Rattle.psci_port.specs.Stages.{Stage, has_stopped, is_started, looks}
-use Rattle.psci_port.proofs.Keeping.{IsKept}
-use Rattle.psci_port.proofs.Locks.{Fits as FitsCall}
+use Rattle.psci_port.specs.Stages.{has_stopped, is_armed, is_started, looks, Stage, stage_by}
+use Rattle.psci_port.proofs.Records.{held_after}
+use Rattle.psci_port.proofs.Locks.{Fits as FitsCall, IsKept}
 use Rattle.psci_port.proofs.Started.{starts_core}
-use Rattle.psci_port.proofs.Held.{held_after}
-use Rattle.psci_control.specs.ControlSide.{ControlValue, IsControlSide, gate_in, orders_in}
-use Rattle.psci_control.specs.ControlSide.{values_of}
-use Rattle.psci_control.specs.declared.order.Order.{Order}
+use Rattle.psci_fw.specs.Reactions.{FirmwareValue}
+use Rattle.psci_control.specs.ControlSide.{closed, ControlValue, gate_in, gates_after}
+use Rattle.psci_control.specs.ControlSide.{IsControlSide, orders_in, with_gate}
 use Rattle.psci_control.specs.Orders.{ack_in, orders_of}
 use Rattle.psci_control.specs.SideOf as control
+use Rattle.psci_control.specs.declared.gate.Gate.{Gate}
+use Rattle.psci_control.specs.declared.order.Ending.{Ending}
+use Rattle.psci_control.specs.declared.order.Order.{Order}
+use Rattle.psci_control.proofs.Asked.{closed_at}
+use Rattle.psci_enter.specs.SideOf.{Fits, is_end, IsFirmwareOf, IsSideOf}
 use Rattle.psci_enter.specs.declared.post.Post.{Post}
-use Rattle.psci_enter.specs.SideOf.{Fits, IsFirmwareOf, is_end}
-use Rattle.psci_sides.specs.Machine.{IsIn, Machine, carried, empty, new_side}
-use Rattle.psci_sides.specs.Seen.{IsCoreOf, IsEventOf, IsLent, IsMachineOf}
-use Rattle.psci_sides.proofs.Around.{in_listed, made_new, made_still, sent_still}
+use Rattle.psci_enter.specs.declared.post.Post.TheVariants.{Armed, Entering}
+use Rattle.psci_enter.specs.declared.side.FirmwareSide.{FirmwareSide}
+use Rattle.psci_sides.specs.Machine.{carried, empty, has_stood, IsIn, Machine, new_side, side_of}
+use Rattle.psci_sides.specs.Machine.{starts_in, Station}
+use Rattle.psci_sides.specs.Seen.{IsCoreOf, IsEventOf, IsLent, IsMachineOf, WasMade, WasSent}
 use Rattle.psci_sides.proofs.Carrying.{carried_by, done, done_acks, done_lock, done_mail}
 use Rattle.psci_sides.proofs.Carrying.{done_power}
+
+-- One core ---------------------------------------------------------------------------------------
+
+module _ (b : BoardValue) (m : Machine) (p : Port)
+    (each : (c : ℕ) → c < cores b → IsCoreOf c (m.side c) (m.station c) (p.row c)) where
+  -- another one's row is as before
+  pub one_core : (c : ℕ) (s : FirmwareSide) (x : Station) (r : Row) → IsCoreOf c s x r
+      → (d : ℕ) → d < cores b
+      → IsCoreOf d (cond (d == c) s (m.side d)) (cond (d == c) x (m.station d))
+      (cond (d == c) r (p.row d))
+  one_core c s x r own d has = grind (arith, nat_tests)
+
+  -- the same where its row is, too
+  pub same_core : (c : ℕ) (s : FirmwareSide) (x : Station) → IsCoreOf c s x (p.row c)
+      → (d : ℕ) → d < cores b
+      → IsCoreOf d (cond (d == c) s (m.side d)) (cond (d == c) x (m.station d)) (p.row d)
+  same_core c s x own d has = grind (arith, nat_tests)
+
+  -- its monitor is its side of the port
+  pub its_side : (c : ℕ) → c < cores b → IsSideOf b (side_of m c) p
+  its_side c has = record { has = has; used = (each c has).used; post = (each c has).post }
+
+-- who is armed has a monitor that is
+pub armed_post : (post : Post) (y : Stage) → Fits post y → is_armed y ≡ true → post ≡ Armed
+armed_post post y fits armed = grind (arith, nat_tests)
+
+-- whether a core stands in its last start is the same in both
+module _ (b : BoardValue) (m : Machine) (p : Port) (is : IsMachineOf b m p) (kept : IsKept p)
+    (c : ℕ) (has : c < cores b) where
+  pub stood_same : has_stood m c ≡ (words p c == p.values.starts c)
+  stood_same = ap (λ n. n == starts_in m c) (is.each c has).word
+      ∙ ap (λ (v : Values). words p c == v.starts c) is.control.values
+
+  pub stood_stopped : has_stood m c ≡ true → has_stopped (stage_at p c) ≡ true
+  stood_stopped stood = (kept.rows c).stands (eqb-true _ _ (sym stood_same ∙ stood))
+
+  pub stopped_stood : has_stopped (stage_at p c) ≡ true → has_stood m c ≡ true
+  stopped_stood stopped = stood_same ∙ eq-eqb _ _ ((kept.rows c).still stopped)
+
+-- The mailbox ------------------------------------------------------------------------------------
+
+-- what is in a list behind what was put there
+pub in_listed : {A : Type 0} → (o : Option A) (xs : List A) (x : A) → IsIn (listed o ++ xs) x
+    → (o ≡ Some x) ⊎ IsIn xs x
+in_listed o xs x h = grind (arith, nat_tests)
+
+-- an item keeps its number
+pub still_numbered : {A : Type 0} → (o : Option A) (xs : List A) (k : ℕ) (x : A)
+    → indexed xs k ≡ Some x → indexed (listed o ++ xs) k ≡ Some x
+still_numbered None xs k x e = e
+still_numbered (Some y) xs k x e = numbered_old y xs k x e
+
+-- and the newest one has one
+pub new_numbered : {A : Type 0} → (o : Option A) (xs : List A) (x : A) → o ≡ Some x
+    → (k : ℕ) × (indexed (listed o ++ xs) k ≡ Some x)
+new_numbered None xs x e = absurd (none-some x e)
+new_numbered (Some y) xs x e = (length xs, numbered_new y xs ∙ e)
+
+-- what was sent and made, after one record more
+pub sent_still : (r : Record) (past : List Record) (x : MessageValue) → WasSent past x
+    → WasSent (r ∷ past) x
+unfolding sent
+sent_still r past x was = (was.0, still_numbered (sent_in r.said) (sent past) was.0 x was.1)
+
+pub sent_new : (r : Record) (past : List Record) (x : MessageValue) → sent_in r.said ≡ Some x
+    → WasSent (r ∷ past) x
+unfolding sent
+sent_new r past x e = new_numbered (sent_in r.said) (sent past) x e
+
+pub made_still : (r : Record) (past : List Record) (a : AckValue) → WasMade past a
+    → WasMade (r ∷ past) a
+unfolding acks
+made_still r past a was =
+    (was.0, still_numbered (world.ack_in r.said) (acks past) was.0 a was.1)
+
+pub made_new : (r : Record) (past : List Record) (a : AckValue) → world.ack_in r.said ≡ Some a
+    → WasMade (r ∷ past) a
+unfolding acks
+made_new r past a e = new_numbered (world.ack_in r.said) (acks past) a e
+
+-- What is kept back ------------------------------------------------------------------------------
+
+-- what waits once something else is written down of one core
+pub gate_waits : (gates : List Gate) (c : ℕ) (g : Gate) (d : ℕ) (x : MessageValue)
+    → c < length gates → (gate_in (slice_set gates c g) d).waiting ≡ Some x
+    → (g.waiting ≡ Some x) ⊎ ((gate_in gates d).waiting ≡ Some x)
+gate_waits gates c g d x inside at =
+    grind (arith, nat_tests, cases_eq, get_or-set_same, get_or-set_other)
+
+-- and once a life ends
+pub ended_waits : (o : Option Ending) (gates : List Gate) (d : ℕ) (x : MessageValue)
+    → (gate_in (gates_after o gates) d).waiting ≡ Some x → (gate_in gates d).waiting ≡ Some x
+ended_waits None gates d x at = at
+ended_waits (Some e) gates d x at =
+    absurd (none-some x (sym (ap (λ (k : Gate). k.waiting) (closed_at gates e d)) ∙ at))
+
+-- what stands at a core's door in a port, and its word, are as before
+module _ (b : BoardValue) (p : Port) (s : ControlValue) (side : control.IsSideOf b s p)
+    (is : IsControlSide s) (c : ℕ) (has : c < cores b) where
+  pub inside : c < length s.gates
+  inside = subst (λ n. c < n) (sym (is.gates ∙ ap cores side.board)) has
+
+  pub there : (g : Gate) → gate_in (with_gate s c g).gates c ≡ g
+  there g = get_or-set_same s.gates c g closed inside
+
+  -- something else waits
+  pub waits_side : (g : Gate) → g.written ≡ (gate_in s.gates c).written
+      → g.opened ≡ (gate_in s.gates c).opened → g.word ≡ (gate_in s.gates c).word
+      → control.IsSideOf b (with_gate s c g) p
+  waits_side g written opened word = grind (arith, nat_tests, cases_eq, there, get_or-set_other)
+
+-- Commanding --------------------------------------------------------------------------------------
 
 said_ack : (n : ℕ) (r : CtlReply) (a : AckValue) → ack_in r ≡ Some a
     → world.ack_in (said_by n r) ≡ Some a
 said_ack n (replies.Delivery (deliveries.Applied x)) a e = e
-said_ack n (replies.Delivery deliveries.Ignored) a e = absurd (none-some a e)
-said_ack n (replies.Kick (kicks.Started s)) a e = absurd (none-some a e)
-said_ack n (replies.Kick kicks.Ignored) a e = absurd (none-some a e)
+said_ack n x a e = absurd (none-some a e)
 
 -- a core was lent nothing that is neither in the normal world nor on its way into the firmware
 abbrev pub is_within : Stage → Bool
-is_within stages.Standing = false
-is_within stages.AtDoor = false
 is_within (stages.Entering s) = true
 is_within stages.Normal = true
-is_within stages.Leaving = false
-is_within stages.Armed = false
-is_within stages.Woken = false
+is_within y = false
 
 module _ (p : Port) (kept : IsKept p) (c : ℕ) (post : Post)
     (out : is_within (stage_at p c) ≡ false) where
@@ -81,58 +194,19 @@ module _ (p : Port) (kept : IsKept p) (c : ℕ) (post : Post)
 
 -- one that stands is not
 pub stood_out : (y : Stage) → has_stopped y ≡ true → is_within y ≡ false
-stood_out stages.Standing is = refl
-stood_out stages.AtDoor is = refl
-stood_out (stages.Entering s) is = absurd (false≢true is)
-stood_out stages.Normal is = absurd (false≢true is)
-stood_out stages.Leaving is = refl
-stood_out stages.Armed is = refl
-stood_out stages.Woken is = refl
+stood_out y is = grind (arith, nat_tests)
 
 -- nor one that looks
 pub looks_out : (y : Stage) → looks y ≡ true → is_within y ≡ false
-looks_out stages.Standing is = refl
-looks_out stages.AtDoor is = refl
-looks_out (stages.Entering s) is = absurd (false≢true is)
-looks_out stages.Normal is = absurd (false≢true is)
-looks_out stages.Leaving is = refl
-looks_out stages.Armed is = refl
-looks_out stages.Woken is = refl
+looks_out y is = grind (arith, nat_tests)
 
 -- nor one that was started, and has not taken its start up
 pub started_out : (y : Stage) → is_started y ≡ true → is_within y ≡ false
-started_out stages.Standing is = refl
-started_out stages.AtDoor is = refl
-started_out (stages.Entering s) is = absurd (false≢true is)
-started_out stages.Normal is = absurd (false≢true is)
-started_out stages.Leaving is = refl
-started_out stages.Armed is = refl
-started_out stages.Woken is = refl
+started_out y is = grind (arith, nat_tests)
 
 -- a core as a life begins
 pub first_core : (c : ℕ) → IsCoreOf c (new_side c) empty (first_row c)
-first_core c = by (c == 0)
-  where
-    by : (t : Bool) → IsCoreOf c (new_side c) empty
-        (cond t (blank stages.AtDoor) (blank stages.Standing))
-    by true = record {
-      used = refl;
-      post = refl;
-      opened = refl;
-      start = refl;
-      word = refl;
-      held = refl;
-      lent = refl;
-    }
-    by false = record {
-      used = refl;
-      post = refl;
-      opened = refl;
-      start = refl;
-      word = refl;
-      held = refl;
-      lent = refl;
-    }
+first_core c = grind (arith, nat_tests)
 
 module _ (b : BoardValue) (m : Machine) (p : Port) (is : IsMachineOf b m p) (f : FirmwareValue)
     (r : CtlReply) (event : Event) where
@@ -151,15 +225,7 @@ module _ (b : BoardValue) (m : Machine) (p : Port) (is : IsMachineOf b m p) (f :
       → Fits (m.side c).post (stage_by cause (stage_at p c)) → (m.station c).lent ≡ None
       → ((x : Bool) → held_by cause x ≡ x)
       → IsCoreOf c (m.side c) (m.station c) (started cause (p.row c))
-  started_core c cause was fits none free = record {
-    used = was.used;
-    post = fits;
-    opened = was.opened;
-    start = was.start;
-    word = was.word;
-    held = was.held ∙ sym (free (p.row c).held);
-    lent = subst (λ o. IsLent c (m.side c).post o None) (sym none) refl;
-  }
+  started_core c cause was fits none free = grind (arith, nat_tests)
 
   pub cores_after : (g : Effect)
       → (is_end g ≡ false → (c : ℕ) → c < cores b
@@ -194,11 +260,7 @@ module _ (b : BoardValue) (m : Machine) (p : Port) (is : IsMachineOf b m p) (f :
   firmware_after : (g : Effect) → (is_end g ≡ false → IsFirmwareOf b m.firmware (left g))
       → (is_end g ≡ true → IsFirmwareOf b f (left g))
       → IsFirmwareOf b (done_now g).firmware (left g)
-  firmware_after Nothing stays new = stays refl
-  firmware_after (Starts c cause) stays new = stays refl
-  firmware_after (Deepens c ps) stays new = stays refl
-  firmware_after Ends stays new = new refl
-  firmware_after Begins stays new = new refl
+  firmware_after g stays new = grind (arith, nat_tests)
 
   module _ (t : ControlValue) (g : Effect)
       (stays : is_end g ≡ false → IsFirmwareOf b m.firmware (left g))
@@ -249,11 +311,7 @@ module _ (b : BoardValue) (m : Machine) (p : Port) (is : IsMachineOf b m p) (f :
   now = effect_of b call rep
 
   same_orders : orders_in m.control call ≡ orders_of now rep
-  same_orders =
-      ap (λ (x : BoardValue). orders_of (effect_of x call (reply x (values_of m.control) call))
-      (reply x (values_of m.control) call)) is.control.board
-      ∙ ap (λ (v : Values). orders_of (effect_of b call (reply b v call)) (reply b v call))
-      is.control.values
+  same_orders = grind (arith, nat_tests)
 
   pub carried_now : carried b f (orders_in m.control call) m ≡ done b f now (ack_in rep) m
   carried_now = ap (λ (os : List Order). carried b f os m) same_orders ∙ carried_by b f now rep m

@@ -1,20 +1,18 @@
 -- A frame of use is delivered: it pays for what it brings about.
-use Rattle.std.proofs.Common.{◌+◌, ◌*◌, ◌<◌, ◌∙◌, ◌∷◌, ◌≡◌, ◌≤◌, ap, arith}
-use Rattle.std.proofs.Common.{Bool, cond, false, inr, List, None, refl, Some}
-use Rattle.std.proofs.Common.{subst, sym, take, true, ℕ}
+use Rattle.std.proofs.lemmas.Bool.Decides.{nat_tests}
+use Rattle.std.proofs.Common.{◌*◌, ◌+◌, ◌<◌, ◌∙◌, ◌∷◌, ◌≡◌, ◌≤◌, ap, arith, Bool, cond, false}
+use Rattle.std.proofs.Common.{inr, List, None, refl, Some, subst, sym, take, true, ℕ}
 use Rattle.std.specs.Prelude.{nat_lt}
 use Rattle.std.proofs.lemmas.Bool.{cond-true, ne_eqb}
 use Rattle.std.proofs.lemmas.Option.{none-some}
 use Rattle.psci_board.specs.Board.{BoardValue, cores}
-use Rattle.psci_ctl_spec.specs.Changes.{change}
-use Rattle.psci_ctl_spec.specs.Effects.{Effect, Nothing, Starts, Deepens, Ends, Begins, effect_of}
-use Rattle.psci_ctl_spec.specs.Effects.{message_effect}
-use Rattle.psci_ctl_spec.specs.Parts.{applied}
-use Rattle.psci_ctl_spec.specs.Replies.{ack_by, ack_of, is_this_life, may_follow, reply}
-use Rattle.psci_ctl_spec.specs.Values.{Values}
+use Rattle.psci_ctl_spec.specs.Replies.{ack_by, ack_of, Begins, change, Deepens, Effect}
+use Rattle.psci_ctl_spec.specs.Replies.{effect_of, Ends, is_this_life, may_follow}
+use Rattle.psci_ctl_spec.specs.Replies.{message_effect, Nothing, reply, Starts}
+use Rattle.psci_ctl_spec.specs.Values.{applied, Values}
 use Rattle.psci_ctl_spec.specs.declared.call.CtlCall.TheVariants as asked
 use Rattle.psci_ctl_spec.specs.declared.reply.CtlReply.{CtlReply}
-use Rattle.psci_fw.specs.Seen.{FirmwareValue, seen as remembers}
+use Rattle.psci_fw.specs.Reactions.{FirmwareValue, seen as remembers}
 use Rattle.psci_fw_spec.specs.Values.{Values as Remembered}
 use Rattle.psci_fw_spec.specs.declared.call.FwCall.TheVariants as calls
 use Rattle.psci_messages.specs.Message.{AckValue, MessageValue}
@@ -29,22 +27,17 @@ use Rattle.psci_port.specs.Resting.{core_left, left, total}
 use Rattle.psci_port.specs.Served.{ends}
 use Rattle.psci_port.specs.Undone.{left_of, served}
 use Rattle.psci_port.proofs.Undone.{effect_this, ends_this}
-use Rattle.psci_control.specs.ControlSide.{ControlValue, orders_in}
-use Rattle.psci_control.specs.ControlSide.{values_of}
+use Rattle.psci_control.specs.ControlSide.{ControlValue, orders_in, values_of}
 use Rattle.psci_control.specs.declared.gate.Gate.{Gate}
 use Rattle.psci_enter.specs.SideOf.{is_end}
 use Rattle.psci_sides.specs.Machine.{Machine, commanded}
 use Rattle.psci_sides.specs.Seen.{IsMachineOf}
-use Rattle.psci_sides.proofs.Carrying.{done}
-use Rattle.psci_sides.proofs.Dues.{start_done}
-use Rattle.psci_sides.proofs.Dues.{done_so, same_weight, start_weight}
-use Rattle.psci_sides.proofs.Dues.{starts_of}
-use Rattle.psci_sides.proofs.Given.{Given, IsSeen}
-use Rattle.psci_sides.proofs.Owing.{IsCalling, Owes, OwesNext, Pays, kind_rest, rest}
-use Rattle.psci_sides.proofs.Owing.{total_few, unheard, unheard_few}
-use Rattle.psci_sides.proofs.Settling.{weight}
-use Rattle.psci_sides.proofs.Weighing.{all_few, total_bound}
-use Rattle.psci_sides.proofs.Useful.{IsDelivery}
+use Rattle.psci_sides.proofs.Carrying.{done, Given, IsSeen}
+use Rattle.psci_sides.proofs.Useful.{done_so, IsDelivery, same_weight, start_done, start_weight}
+use Rattle.psci_sides.proofs.Useful.{starts_of}
+use Rattle.psci_sides.proofs.Quietly.{IsCalling, kind_rest, Owes, OwesNext, Pays, rest}
+use Rattle.psci_sides.proofs.Quietly.{total_few, unheard, unheard_few}
+use Rattle.psci_sides.proofs.Settling.{all_few, total_bound, weight}
 use Rattle.psci_sides.proofs.Useful as useful
 
 module _ (b : BoardValue) (given : Given b) (m : Machine) (acts : List Act)
@@ -91,9 +84,6 @@ module _ (b : BoardValue) (given : Given b) (m : Machine) (acts : List Act)
       state_l : state b next ≡ moved b p g rec
       state_l = useful.state_l b given m acts seen all owes x t f k gates it g same
 
-      values_l : values_of t ≡ change b g w
-      values_l = useful.values_l b given m acts seen all owes x t f k gates it g same
-
       module _ (goes : is_end g ≡ false)
           (starts : (c : ℕ) → starts_of g c → (x.core.number ≡ c) × (x.kind ≡ kinds.Start)) where
         by_slot : (n : ℕ) → Pays b l (Some x) n
@@ -115,22 +105,18 @@ module _ (b : BoardValue) (given : Given b) (m : Machine) (acts : List Act)
           ∙ ap (λ (v : Remembered). v.outstanding slot) it.anew.values
         where
           new_firmware : (g : Effect) → is_end g ≡ true → (done b f g (Some ack) m).firmware ≡ f
-          new_firmware Nothing over = absurd (cc)
-          new_firmware (Starts c cause) over = absurd (cc)
-          new_firmware (Deepens c ps) over = absurd (cc)
           new_firmware Ends over = refl
           new_firmware Begins over = refl
+          new_firmware f over = absurd (cc)
 
       none_calls : is_end g ≡ true → IsCalling b l → ⊥
       none_calls over e = by g over e.1.1.1
         where
           by : (g : Effect) → is_end g ≡ true
               → ((done b f g (Some ack) m).station e.0).lent ≡ Some (calls.Smc e.1.1.0) → ⊥
-          by Nothing over at = cc
-          by (Starts c cause) over at = cc
-          by (Deepens c ps) over at = cc
           by Ends over at = none-some _ at
           by Begins over at = none-some _ at
+          by f over at = cc
 
       -- what is left to do then is bounded
       ends_next : is_end g ≡ true → 232 * cores b + 2 ≤ owes.system → OwesNext b l next all 0
@@ -242,12 +228,7 @@ module _ (b : BoardValue) (given : Given b) (m : Machine) (acts : List Act)
     -- an Off or a Reset
     system_much : (kind : Kind) → x.kind ≡ kind → slot_of kind x.core ≡ OfSystem
         → kind_rest b w x kind ≡ 232 * cores b → 232 * cores b + 2 ≤ owes.system
-    system_much kind e slot much =
-        let low = aside owes.system (subst (λ o. Pays b m o owes.system)
-        (ap (remembers m.firmware).outstanding (sym (ap (λ k. slot_of k x.core) e ∙ slot))
-        ∙ it.wanted.out) owes.whole) in
-        let was = rest_by kind e in
-        omega (arith, low, was, much)
+    system_much kind e slot much = grind (arith, nat_tests, aside, rest_by)
 
     by_kind : (kind : Kind) → x.kind ≡ kind → OwesNext b L next all 0
     by_kind kinds.Down e = down_next e (ends x rep) refl

@@ -1,56 +1,47 @@
 -- A message is delivered, and its orders are carried out.
-use Rattle.std.proofs.Common.{◌<◌, ◌∙◌, ◌∷◌, ◌≡◌, [], ap, Bool, false}
-use Rattle.std.proofs.Common.{inl, inr, List, Option, None, Some, refl, subst, sym}
-use Rattle.std.proofs.Common.{true, ℕ}
+use Rattle.std.proofs.Common.{arith}
+use Rattle.std.proofs.lemmas.Bool.Decides.{nat_tests}
+use Rattle.std.proofs.Common.{◌<◌, ◌∙◌, ◌∷◌, ◌≡◌, [], ap, Bool, false, inl, inr, List, None}
+use Rattle.std.proofs.Common.{Option, refl, Some, subst, sym, true, ℕ}
 use Rattle.std.specs.Prelude.{not, ◌&&◌}
-use Rattle.std.proofs.lemmas.Bool.{eqb-true, false≢true}
+use Rattle.std.proofs.lemmas.Bool.{eqb-true}
 use Rattle.std.proofs.lemmas.Option.{none-some}
 use Rattle.psci_board.specs.Board.{BoardValue, cores}
 use Rattle.psci_messages.specs.Message.{AckValue, MessageValue}
 use Rattle.psci_messages.specs.declared.kind.Kind.TheVariants as kinds
 use Rattle.psci_ctl_spec.specs.declared.call.CtlCall.{CtlCall}
 use Rattle.psci_ctl_spec.specs.declared.call.CtlCall.TheVariants as asked
-use Rattle.psci_ctl_spec.specs.Effects.{Effect, effect_of}
-use Rattle.psci_ctl_spec.specs.Legal.{IsSendable}
-use Rattle.psci_ctl_spec.specs.Replies.{reply}
-use Rattle.psci_fw.specs.Seen.{FirmwareValue}
+use Rattle.psci_ctl_spec.specs.Replies.{Effect, effect_of, reply}
+use Rattle.psci_ctl_spec.specs.History.{IsSendable}
+use Rattle.psci_fw.specs.Reactions.{FirmwareValue}
 use Rattle.psci_world_spec.specs.declared.event.Event.TheVariants as events
-use Rattle.psci_world_spec.specs.Histories.{sent}
-use Rattle.psci_world_spec.specs.Lists.{indexed}
-use Rattle.psci_port.specs.Port.{Act, Delivers, Port}
-use Rattle.psci_port.specs.Port.{row_by, stage_at, state, step}
-use Rattle.psci_port.specs.Port.{words}
+use Rattle.psci_world_spec.specs.Legal.{indexed, sent}
+use Rattle.psci_port.specs.Port.{Act, Delivers, Port, row_by, stage_at, state, step, words}
 use Rattle.psci_port.specs.Waiting.{stands, touches}
-use Rattle.psci_port.proofs.Keeping.{IsKept}
+use Rattle.psci_port.proofs.Locks.{IsKept}
 use Rattle.psci_port.proofs.Running.{run_kept}
-use Rattle.psci_port.proofs.Started.{delivered_starts, delivered_touches}
-use Rattle.psci_port.proofs.Held.{delivered_held}
-use Rattle.psci_port.proofs.Started.{starts_core}
+use Rattle.psci_port.proofs.Started.{delivered_starts, delivered_touches, starts_core}
+use Rattle.psci_port.proofs.Records.{delivered_held}
 use Rattle.psci_control.specs.declared.gate.Gate.{Gate}
-use Rattle.psci_control.specs.ControlSide.{ControlValue, IsAsked}
-use Rattle.psci_control.specs.ControlSide.{effect_in, gate_in, orders_in, served}
-use Rattle.psci_control.specs.Orders.{ack_in, ending_of}
+use Rattle.psci_control.specs.ControlSide.{ControlValue, gate_in, IsAsked, orders_in, served}
+use Rattle.psci_control.specs.Orders.{ack_in}
 use Rattle.psci_control.specs.SideOf as control
 use Rattle.psci_control.proofs.Commanded.{delivers_side}
 use Rattle.psci_enter.proofs.Keeping.{delivers_firmware}
 use Rattle.psci_enter.proofs.Others as others
-use Rattle.psci_enter.proofs.Others.{wake_goes}
 use Rattle.psci_sides.specs.Machine.{Machine, commanded, side_of}
-use Rattle.psci_sides.specs.Steps.{ArmedLacks, Asks, DeliverKept, DeliverMail, IsMadeAnew, May}
-use Rattle.psci_sides.specs.Steps.{after, keeping}
+use Rattle.psci_sides.specs.Steps.{after, ArmedLacks, Asks, DeliverKept, DeliverMail, IsMadeAnew}
+use Rattle.psci_sides.specs.Steps.{keeping, May}
 use Rattle.psci_sides.specs.Seen.{IsCoreOf, IsMachineOf}
-use Rattle.psci_sides.proofs.Around.{armed_post, ended_waits, gate_waits, inside, its_side}
-use Rattle.psci_sides.proofs.Around.{waits_side}
-use Rattle.psci_sides.proofs.Commanding.{carried_now, cores_after, left_machine}
-use Rattle.psci_sides.proofs.Commanding.{lent_none, stood_out}
-use Rattle.psci_sides.proofs.Given.{Follows, Given, IsSeen, one_act}
+use Rattle.psci_sides.proofs.Commanding.{armed_post, carried_now, cores_after, ended_waits}
+use Rattle.psci_sides.proofs.Commanding.{gate_waits, inside, its_side, left_machine, lent_none}
+use Rattle.psci_sides.proofs.Commanding.{stood_out, waits_side}
+use Rattle.psci_sides.proofs.Carrying.{Follows, Given, IsSeen, one_act}
 
 -- Tests ------------------------------------------------------------------------------------------
 
 met : (t h : Bool) → (t && not h) ≡ false → t ≡ true → h ≡ true
-met true true free is = refl
-met true false free is = absurd (false≢true (sym free))
-met false h free is = absurd (false≢true is)
+met t h free is = grind (arith, nat_tests)
 
 module _ (b : BoardValue) (given : Given b) (m : Machine) (acts : List Act)
     (seen : IsSeen b m acts) where
@@ -85,9 +76,7 @@ module _ (b : BoardValue) (given : Given b) (m : Machine) (acts : List Act)
   pub still_waits : (s t : ControlValue) (call : CtlCall) → IsAsked call s t → (c : ℕ)
       (x : MessageValue) → (gate_in t.gates c).waiting ≡ Some x
       → (gate_in s.gates c).waiting ≡ Some x
-  still_waits s t call was c x e =
-      ended_waits (ending_of (effect_in s call)) s.gates c x
-      (subst (λ (gs : List Gate). (gate_in gs c).waiting ≡ Some x) was.gates e)
+  still_waits s t call was c x e = grind (arith, nat_tests, ended_waits)
 
   -- A message ------------------------------------------------------------------------------------
 

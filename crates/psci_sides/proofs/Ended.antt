@@ -1,44 +1,112 @@
 -- A call of the firmware ends: what it sends is paid for, of an entry by the entry.
-use Rattle.std.proofs.Common.{◌+◌, ◌*◌, ◌<◌, ◌==◌, ◌∙◌, ◌++◌, ◌≡◌, ◌≤◌, ◌⊎◌, ap, arith, Bool}
-use Rattle.std.proofs.Common.{cond, false, inl, inr, List, None, Option, refl, Some, subst, suc}
-use Rattle.std.proofs.Common.{sym, true, ℕ}
 use Rattle.std.specs.Prelude.{slice_get}
+use Rattle.std.proofs.Common.{◌*◌, ◌++◌, ◌+◌, ◌<◌, ◌==◌, ◌∙◌, ◌∷◌, ◌≡◌, ◌≤◌, ◌⊎◌, [], ap, arith}
+use Rattle.std.proofs.Common.{Bool, cond, false, inl, inr, length, List, None, Option, refl}
+use Rattle.std.proofs.Common.{Some, subst, suc, sym, true, ℕ}
 use Rattle.std.proofs.lemmas.Bool.{eqb-false}
 use Rattle.std.proofs.lemmas.Bool.Decides.{nat_tests}
 use Rattle.std.proofs.lemmas.Option.{none-some}
 use Rattle.psci_abi.specs.declared.registers.Regs.{Regs}
 use Rattle.psci_board.specs.Board.{BoardValue, cores}
-use Rattle.psci_board.specs.declared.node.Core.{Core}
-use Rattle.psci_fw.specs.Seen.{FirmwareValue, seen as remembers}
-use Rattle.psci_fw_spec.specs.Said.{listed}
+use Rattle.psci_board.specs.declared.draft.Core.{Core}
+use Rattle.psci_messages.specs.Message.{ArePartsOf, MessageValue}
+use Rattle.psci_messages.specs.Slots.{OfCore, OfSystem, Slot, slot_of}
+use Rattle.psci_messages.specs.declared.kind.Kind.{Kind}
+use Rattle.psci_messages.specs.declared.kind.Kind.TheVariants as kinds
+use Rattle.psci_messages.specs.declared.part.Part.{Part}
+use Rattle.psci_messages.specs.declared.start.Start.{Start}
+use Rattle.psci_ctl_spec.specs.History.{IsSendable}
+use Rattle.psci_ctl_spec.specs.Replies.{is_this_life}
+use Rattle.psci_ctl_spec.specs.Values.{Values}
+use Rattle.psci_fw_spec.specs.Effects.{listed}
 use Rattle.psci_fw_spec.specs.Values.{Values as Remembered}
 use Rattle.psci_fw_spec.specs.declared.call.FwCall.{FwCall}
 use Rattle.psci_fw_spec.specs.declared.call.FwCall.TheVariants as calls
 use Rattle.psci_fw_spec.specs.declared.reply.FwReply.{FwReply}
-use Rattle.psci_fw_spec.specs.declared.reply.FwReply.TheVariants as replies
-use Rattle.psci_messages.specs.Message.{MessageValue}
-use Rattle.psci_messages.specs.Slots.{OfCore, OfSystem, Slot, slot_of}
-use Rattle.psci_messages.specs.declared.kind.Kind.{Kind}
-use Rattle.psci_messages.specs.declared.start.Start.{Start}
+use Rattle.psci_world_spec.specs.Legal.{sent, sent as sent_in}
 use Rattle.psci_port.specs.Port.{Act, Port, state}
 use Rattle.psci_port.specs.Resting.{total}
-use Rattle.psci_port.specs.Undone.{IsListed}
-use Rattle.psci_world_spec.specs.Histories.{sent as sent_in}
-use Rattle.psci_port.proofs.Keeping.{IsKept}
+use Rattle.psci_port.specs.Undone.{is_undone, IsListed, left_of, undone}
+use Rattle.psci_port.proofs.Locks.{IsKept}
 use Rattle.psci_port.proofs.Running.{run_kept}
+use Rattle.psci_fw.specs.Reactions.{FirmwareValue, seen as remembers}
 use Rattle.psci_control.specs.ControlSide.{values_of}
 use Rattle.psci_enter.specs.Side.{IsAsked, reply_in}
 use Rattle.psci_sides.specs.Frames.{IsUnderWay}
-use Rattle.psci_sides.specs.Machine.{IsIn, Machine, answered, orders_by, returned, side_by, side_of}
+use Rattle.psci_sides.specs.Machine.{answered, IsIn, Machine, orders_by, side_by, side_of}
 use Rattle.psci_sides.specs.Seen.{IsLent, IsMachineOf}
-use Rattle.psci_sides.specs.Steps.{EndCall, May, after}
-use Rattle.psci_sides.proofs.Given.{Follows, Given, IsSeen}
-use Rattle.psci_sides.proofs.Listed.{listed_here, rest_down, rest_most}
-use Rattle.psci_sides.proofs.Owing.{IsCalling, Owes, OwesNext, Pays, pays_later, rest, unheard}
-use Rattle.psci_sides.proofs.Paying.{pays_core, pays_system}
-use Rattle.psci_sides.proofs.Quietly.{core_words}
-use Rattle.psci_sides.proofs.Sends.{IsLeftBy, call_out, entry_down, entry_out, message_in}
+use Rattle.psci_sides.specs.Steps.{after, EndCall, May}
+use Rattle.psci_sides.proofs.Carrying.{Follows, Given, IsSeen}
+use Rattle.psci_sides.proofs.Quietly.{core_words, IsCalling, kind_rest, Owes, OwesNext, Pays}
+use Rattle.psci_sides.proofs.Quietly.{pays_later, rest, unheard}
+use Rattle.psci_sides.proofs.Visiting.{pays_core, pays_system}
+use Rattle.psci_sides.proofs.Acking.{call_out, entry_down, entry_out, IsLeftBy, message_in}
 use Rattle.psci_sides.proofs.Settling.{weight}
+
+-- What is outstanding was sent, and what it may still bring about is bounded ----------------------
+
+-- what is outstanding in the machine's firmware was sent in the port
+pub listed_here : (b : BoardValue) → Given b → (m : Machine) (acts : List Act) → IsSeen b m acts
+    → (slot : Slot) (x : MessageValue) → (remembers m.firmware).outstanding slot ≡ Some x
+    → IsListed b (sent (state b acts).past) slot x
+listed_here b given m acts seen slot x out = elim seen.tied.firmware.values [
+  | inl same ↦ given.listed acts slot x seen.run seen.so
+      (ap (λ (v : Remembered). v.outstanding slot) (sym same) ∙ out)
+  | inr anew ↦ absurd (none-some x (
+      sym (ap (λ (v : Remembered). v.outstanding slot) anew.values) ∙ out))
+]
+
+-- Bounds -----------------------------------------------------------------------------------------
+
+undone_few : (b : BoardValue) (v : Values) (c : ℕ) (ps : List Part)
+    → undone b v c ps ≤ length ps
+unfolding undone
+undone_few b v c [] = omega arith
+undone_few b v c (p ∷ ps) =
+    let others = undone_few b v c ps in
+    let own = few (is_undone b v c p) in
+    omega (arith, others, own)
+  where
+    few : (t : Bool) → cond {A = ℕ} t 1 0 ≤ 1
+    few true = omega arith
+    few false = omega arith
+
+module _ (b : BoardValue) (v : Values) (x : MessageValue) (can : IsSendable b x) where
+  parts_few : (k : Kind) → ArePartsOf k x.parts → k ≡ kinds.Down → length x.parts ≤ 4
+  parts_few kinds.Down are e = are.most
+  parts_few x are e = absurd (cc)
+
+  down_few : x.kind ≡ kinds.Down → 2 * left_of b v x ≤ 8
+  down_few down = grind (arith, nat_tests, parts_few, undone_few)
+
+  start_few : (t : Bool) → cond {A = ℕ} t 231 0 ≤ 231
+  start_few true = omega arith
+  start_few false = omega arith
+
+  kind_few : (k : Kind) → x.kind ≡ k → 0 < cores b → kind_rest b v x k ≤ 232 * cores b
+  kind_few k e some = grind (arith, nat_tests, down_few, start_few)
+
+  of_life : (t : Bool) (n k : ℕ) → n ≤ k → cond t n 0 ≤ k
+  of_life true n k low = low
+  of_life false n k low = omega arith
+
+  -- of any message
+  pub rest_most : 0 < cores b → rest b v x ≤ 232 * cores b
+  rest_most some = of_life (is_this_life v.life x.life) _ _ (kind_few x.kind refl some)
+
+  -- of a Down
+  pub rest_down : x.kind ≡ kinds.Down → rest b v x ≤ 8
+  rest_down down = of_life (is_this_life v.life x.life) _ _
+      (subst (λ k. kind_rest b v x k ≤ 8) (sym down) (down_few down))
+
+  -- and of one for a core
+  core_few : (k : Kind) (d : ℕ) → x.kind ≡ k → slot_of k x.core ≡ OfCore d → kind_rest b v x k ≤ 231
+  core_few k d e slot = grind (arith, nat_tests, down_few, start_few)
+
+  pub rest_core : (d : ℕ) → slot_of x.kind x.core ≡ OfCore d → rest b v x ≤ 231
+  rest_core d slot = of_life (is_this_life v.life x.life) _ _ (core_few x.kind d refl slot)
+
+-- Ended -------------------------------------------------------------------------------------------
 
 core_of : (k : Kind) (core : Core) (d : ℕ) → slot_of k core ≡ OfCore d → core.number ≡ d
 core_of k core d e = grind (arith, nat_tests)
@@ -106,10 +174,7 @@ module _ (b : BoardValue) (given : Given b) (m : Machine) (acts : List Act)
     in_more (Some y) x at = (suc at.0, at.1)
 
     under : (x : MessageValue) → IsUnderWay m x → IsUnderWay l x
-    under x u = elim u [
-      | inl at ↦ inl (in_more (orders_by (side_of m c) call reply).send x at)
-      | inr at ↦ inr at
-    ]
+    under x u = grind (arith, nat_tests, in_more)
 
     still_pays : (o : Option MessageValue) (n : ℕ) → Pays b m o n → Pays b l o n
     still_pays o n pays = pays_later b m l o n (λ y e i. i) (λ y e u. under y u)
@@ -122,22 +187,12 @@ module _ (b : BoardValue) (given : Given b) (m : Machine) (acts : List Act)
 
     old_slot : (slot : Slot) → ((x : MessageValue) → message_in reply ≡ Some x
         → (remembers g).outstanding slot ≡ Some x → IsOld slot) → IsOld slot
-    old_slot slot none = elim (out slot) [
-      | inl e ↦ inl e
-      | inr other ↦ elim other [
-        | inl e ↦ inr e
-        | inr new ↦ none new.0 new.1.0 new.1.1
-      ]
-    ]
+    old_slot slot none = grind (arith, nat_tests)
 
     old_pays : (slot : Slot) (n : ℕ) → IsOld slot
         → Pays b m ((remembers m.firmware).outstanding slot) n
         → Pays b l ((remembers g).outstanding slot) n
-    old_pays slot n old pays = elim old [
-      | inl e ↦ subst (λ o. Pays b l o n) (sym e)
-          (still_pays ((remembers m.firmware).outstanding slot) n pays)
-      | inr e ↦ subst (λ o. Pays b l o n) (sym e) tt
-    ]
+    old_pays slot n old pays = grind (arith, nat_tests, still_pays)
 
     listed_now : (slot : Slot) (x : MessageValue) → (remembers g).outstanding slot ≡ Some x
         → IsListed b (sent_in (state b next).past) slot x
@@ -228,20 +283,13 @@ module _ (b : BoardValue) (given : Given b) (m : Machine) (acts : List Act)
 
   -- What a call leaves, and what an entry does ---------------------------------------------------
 
-  reply_of : ℕ → FwCall → FwReply
-  reply_of c call = reply_in m.firmware c call
-
   call_sends : (c : ℕ) (regs : Regs) (r : FwReply)
       → (orders_by (side_of m c) (calls.Smc regs) r).send ≡ message_in r
-  call_sends c regs (replies.Out o) = refl
-  call_sends c regs (replies.Taken t) = refl
-  call_sends c regs (replies.Fault f) = refl
+  call_sends c regs r = grind (arith, nat_tests)
 
   entry_sends : (c : ℕ) (start : Start) (r : FwReply)
       → (orders_by (side_of m c) (calls.Enter start) r).send ≡ message_in r
-  entry_sends c start (replies.Out o) = refl
-  entry_sends c start (replies.Taken t) = refl
-  entry_sends c start (replies.Fault f) = refl
+  entry_sends c start r = grind (arith, nat_tests)
 
   ends_by : (c : ℕ) → c < cores b → (call : FwCall) → (m.station c).lent ≡ Some call
       → (g : FirmwareValue) → IsAsked c call m.firmware g → (next : List Act)
@@ -285,8 +333,4 @@ module _ (b : BoardValue) (given : Given b) (m : Machine) (acts : List Act)
       → weight b (next.0 ++ acts) < weight b acts
       → OwesNext b (after b m (EndCall c g)) (next.0 ++ acts) all 0
   unfolding after
-  ended_next c g may next low =
-      subst (λ o. OwesNext b (returned m c g o) (next.0 ++ acts) all 0) (sym may.1.1.0)
-      (ends_by c may.0 may.1.0 may.1.1.0 g may.1.1.1 (next.0 ++ acts)
-      (subst (λ o. IsSeen b (returned m c g o) (next.0 ++ acts)) may.1.1.0 next.2)
-      (subst (λ o. weight b (next.0 ++ acts) < weight b acts) may.1.1.0 low))
+  ended_next c g may next low = grind (arith, nat_tests, ends_by, weight)

@@ -1,47 +1,38 @@
 -- A machine that takes its own steps and serves takes finitely many.
-use Rattle.std.proofs.Common.{◌+◌, ◌*◌, ◌<◌, ◌∙◌, ◌∷◌, ◌++◌, ◌≡◌, ◌≤◌, ◌⊎◌, [], ap, arith}
-use Rattle.std.proofs.Common.{cond, get_or-set_other, inl, inr, length, List, None}
-use Rattle.std.proofs.Common.{Option, refl, Some, subst, sym, ℕ}
+use Rattle.std.proofs.lemmas.Bool.Decides.{nat_tests}
+use Rattle.std.proofs.Common.{◌*◌, ◌++◌, ◌+◌, ◌<◌, ◌∙◌, ◌∷◌, ◌≡◌, ◌≤◌, ◌⊎◌, [], ap, arith, cond}
+use Rattle.std.proofs.Common.{get_or-set_other, inl, inr, length, List, None, Option, refl, Some}
+use Rattle.std.proofs.Common.{subst, sym, ℕ}
 use Rattle.std.proofs.lemmas.Bool.{cases_eq}
 use Rattle.psci_board.specs.Board.{BoardValue, cores}
-use Rattle.psci_ctl_spec.specs.Effects.{effect_of}
-use Rattle.psci_ctl_spec.specs.Replies.{reply}
+use Rattle.psci_ctl_spec.specs.Replies.{effect_of, reply}
 use Rattle.psci_ctl_spec.specs.Values.{Values}
 use Rattle.psci_ctl_spec.specs.declared.call.CtlCall.{CtlCall}
 use Rattle.psci_ctl_spec.specs.declared.call.CtlCall.TheVariants as asked
-use Rattle.psci_fw.specs.Seen.{FirmwareValue, seen as remembers}
+use Rattle.psci_fw.specs.Reactions.{FirmwareValue, seen as remembers}
 use Rattle.psci_messages.specs.Message.{MessageValue}
 use Rattle.psci_messages.specs.Slots.{OfCore, OfSystem, slot_of}
 use Rattle.psci_port.specs.Port.{Act, Port, state}
 use Rattle.psci_port.specs.Resting.{core_left}
-use Rattle.psci_control.specs.ControlSide.{ControlValue, closed, effect_in, gate_in}
-use Rattle.psci_control.specs.ControlSide.{gates_after, orders_in, served, values_of}
+use Rattle.psci_control.specs.ControlSide.{ControlValue, effect_in, gate_in, gates_after, orders_in}
+use Rattle.psci_control.specs.ControlSide.{served, values_of}
 use Rattle.psci_control.specs.Orders.{ending_of}
-use Rattle.psci_control.specs.declared.gate.Gate.{Gate}
 use Rattle.psci_enter.specs.declared.post.Post.TheVariants.{Running}
 use Rattle.psci_sides.specs.Frames.{EachServes, Serves, comes_in, visits}
 use Rattle.psci_sides.specs.Machine.{Machine, cold, commanded}
 use Rattle.psci_sides.specs.Resting.{Goes, is_entering}
 use Rattle.psci_sides.specs.Seen.{IsMachineOf}
-use Rattle.psci_sides.specs.Steps.{BeginCall, BeginEntry, Carry, CutPower, DeliverKept, DeliverMail}
-use Rattle.psci_sides.specs.Steps.{EndCall, GiveLock, Hear, IsCold, IsRun, KeepBack, LookAtDoor}
-use Rattle.psci_sides.specs.Steps.{May, RebootAll, ResetCore, RestartAll, SendAgain, ServeDoor}
-use Rattle.psci_sides.specs.Steps.{Stand, Step, TakeAck, TakeLock, WakeUp, ArmCore, SleepCore}
-use Rattle.psci_sides.specs.Steps.{RouseCore, RiseCore, TurnCore, after, keeping, machine}
+use Rattle.psci_sides.specs.Steps.{after, DeliverKept, DeliverMail, Hear, IsCold, IsRun, keeping}
+use Rattle.psci_sides.specs.Steps.{machine, May, SendAgain, Step, TakeAck, TakeLock}
 use Rattle.psci_sides.proofs.Acking.{takes_next}
 use Rattle.psci_sides.proofs.Delivered.{message_next}
-use Rattle.psci_sides.proofs.Ended.{ended_next}
-use Rattle.psci_sides.proofs.Given.{Follows, Given, IsSeen}
-use Rattle.psci_sides.proofs.Listed.{listed_here, rest_core, rest_most}
-use Rattle.psci_sides.proofs.Owing.{Owes, OwesNext, Pays, total_few, unheard, unheard_few}
-use Rattle.psci_sides.proofs.Quietly.{gate_field, own_next}
-use Rattle.psci_sides.proofs.Running.{follows, run_seen}
-use Rattle.psci_sides.proofs.Settling.{own_less}
+use Rattle.psci_sides.proofs.Ended.{ended_next, listed_here, rest_core, rest_most}
+use Rattle.psci_sides.proofs.Carrying.{Follows, Given, IsSeen}
+use Rattle.psci_sides.proofs.Quietly.{gate_field, Owes, OwesNext, own_next, Pays, total_few}
+use Rattle.psci_sides.proofs.Quietly.{unheard, unheard_few}
+use Rattle.psci_sides.proofs.Restarting.{follows, run_seen}
+use Rattle.psci_sides.proofs.Settling.{all_few, own_less, total_bound}
 use Rattle.psci_sides.proofs.Visiting.{again_next, hear_next, visit_next}
-use Rattle.psci_sides.proofs.Weighing.{all_few, total_bound}
-
-same_some : {x y : MessageValue} → Some x ≡ Some y → x ≡ y
-same_some e = grind arith
 
 module _ (b : BoardValue) (given : Given b) (m : Machine) (acts : List Act)
     (seen : IsSeen b m acts) (all : ℕ) (owes : Owes b m acts all) where
@@ -68,13 +59,7 @@ module _ (b : BoardValue) (given : Given b) (m : Machine) (acts : List Act)
         → (y : MessageValue) → (y ≡ x → ⊥)
         → (gate_in m.control.gates y.core.number).waiting ≡ Some y
         → (gate_in (keeping m c).gates y.core.number).waiting ≡ Some y
-    keeps_kept c has kept y ne at = elim (cases_eq y.core.number c) [
-      | inl same ↦ absurd (ne (same_some (sym at
-          ∙ ap (λ i. (gate_in m.control.gates i).waiting) same ∙ kept)))
-      | inr differs ↦ ap (λ (g : Gate). g.waiting)
-          (get_or-set_other m.control.gates c y.core.number (served (gate_in m.control.gates c))
-          closed differs) ∙ at
-    ]
+    keeps_kept c has kept y ne at = grind (arith, nat_tests, cases_eq, get_or-set_other)
 
   abbrev ServesNext : Step → Type 0
   ServesNext x = May b m x → Serves b m x → (next : Follows b m acts x)
@@ -127,25 +112,7 @@ module _ (b : BoardValue) (given : Given b) (m : Machine) (acts : List Act)
         words = gate_field b given m acts seen all owes (λ g. g.word) c
             (served (gate_in m.control.gates c)) may.0 refl;
       }))
-  serves_next (GiveLock c) may serves next = absurd serves
-  serves_next (BeginCall c regs) may serves next = absurd serves
-  serves_next (BeginEntry c start) may serves next = absurd serves
-  serves_next (EndCall c g) may serves next = absurd serves
-  serves_next (LookAtDoor c pending) may serves next = absurd serves
-  serves_next (Stand c) may serves next = absurd serves
-  serves_next (KeepBack x) may serves next = absurd serves
-  serves_next (WakeUp c t) may serves next = absurd serves
-  serves_next (ServeDoor c) may serves next = absurd serves
-  serves_next (ResetCore c t) may serves next = absurd serves
-  serves_next (CutPower level place) may serves next = absurd serves
-  serves_next (Carry mail made) may serves next = absurd serves
-  serves_next (RestartAll f s) may serves next = absurd serves
-  serves_next (RebootAll f t) may serves next = absurd serves
-  serves_next (ArmCore c) may serves next = absurd serves
-  serves_next (SleepCore c) may serves next = absurd serves
-  serves_next (RouseCore c) may serves next = absurd serves
-  serves_next (RiseCore c t) may serves next = absurd serves
-  serves_next (TurnCore c) may serves next = absurd serves
+  serves_next step may serves next = absurd serves
 
   -- each step
   pub each_next : (x : Step) → May b m x → Goes b m x ⊎ Serves b m x → (next : Follows b m acts x)
@@ -160,7 +127,6 @@ module _ (b : BoardValue) (given : Given b) (m : Machine) (acts : List Act)
         record { less = owed.less; low = omega (arith, low); owes = owed.owes }
     | inr serves ↦ serves_next x may serves next
   ]
-  -- What is owed at first ------------------------------------------------------------------------
 
 module _ (b : BoardValue) (given : Given b) (some : 0 < cores b) (m : Machine) (acts : List Act)
     (seen : IsSeen b m acts) where

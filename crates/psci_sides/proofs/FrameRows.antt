@@ -1,30 +1,29 @@
 -- Worked examples: which steps serve, what breaks each clause of that, and where all is served.
-use Rattle.std.proofs.Common.{◌*◌, ◌+◌, ◌∷◌, ◌++◌, ◌≡◌, [], ap, arith, false, inl, inr, List, None}
-use Rattle.std.proofs.Common.{◌∙◌, Option, refl, reverse, Some, suc, sym, take, true, zero, ℕ}
+use Rattle.std.proofs.Common.{◌*◌, ◌++◌, ◌+◌, ◌∙◌, ◌∷◌, ◌≡◌, [], ap, arith, false, inl, inr, List}
+use Rattle.std.proofs.Common.{None, Option, refl, reverse, Some, suc, sym, take, true, zero, ℕ}
 use Rattle.std.specs.Prelude.{slice_index_or}
 use Rattle.std.proofs.lemmas.Bool.{eqb-false, false≢true}
 use Rattle.std.proofs.lemmas.Option.{none-some}
-use Rattle.psci_board.specs.declared.node.Core.{Core}
-use Rattle.psci_ctl_spec.specs.Changes as changing
-use Rattle.psci_ctl_spec.specs.Legal.{IsSendable}
+use Rattle.psci_board.specs.declared.draft.Core.{Core}
+use Rattle.psci_ctl_spec.specs.Replies as changing
+use Rattle.psci_ctl_spec.specs.History.{IsSendable}
 use Rattle.psci_ctl_spec.specs.Replies.{reply}
-use Rattle.psci_fw.specs.Seen.{seen}
+use Rattle.psci_fw.specs.Reactions.{seen}
 use Rattle.psci_messages.specs.Message.{MessageValue}
 use Rattle.psci_messages.specs.Slots.{slot_of}
 use Rattle.psci_messages.specs.declared.kind.Kind.{Kind}
 use Rattle.psci_messages.specs.declared.kind.Kind.TheVariants as kinds
-use Rattle.psci_sides.specs.Frames.{EachServes, IsEnding, IsLeft, IsLost, IsOut, IsServed}
-use Rattle.psci_sides.specs.Frames.{IsUnderWay, IsWanted, Serves, is_end_of, most_served}
-use Rattle.psci_sides.specs.Frames.{most_visit, visits}
+use Rattle.psci_sides.specs.Frames.{EachServes, is_end_of, IsEnding, IsLeft, IsLost, IsOut}
+use Rattle.psci_sides.specs.Frames.{IsServed, IsUnderWay, IsWanted, most_served, most_visit}
+use Rattle.psci_sides.specs.Frames.{Serves, visits}
 use Rattle.psci_board.specs.Board.{cores}
 use Rattle.psci_sides.specs.Machine.{Machine}
-use Rattle.psci_sides.specs.Steps.{BeginCall, Carry, DeliverKept, DeliverMail, GiveLock}
-use Rattle.psci_sides.specs.Steps.{Hear, KeepBack, SendAgain, Stand, Step, TakeAck, TakeLock}
+use Rattle.psci_sides.specs.Steps.{BeginCall, Carry, DeliverKept, DeliverMail, GiveLock, Hear}
+use Rattle.psci_sides.specs.Steps.{KeepBack, SendAgain, Stand, Step, TakeAck, TakeLock}
 use Rattle.psci_sides.proofs.Framed.{nothing_in}
 use Rattle.psci_sides.proofs.Pair.{ack_of, anew, both_run, code, cpu_off, done, goes_off}
-use Rattle.psci_sides.proofs.Pair.{inside_off}
-use Rattle.psci_sides.proofs.Pair.{off_message, on_message, pair, playing, stands_off, start}
-use Rattle.psci_sides.proofs.Pair.{turns_on}
+use Rattle.psci_sides.proofs.Pair.{inside_off, off_message, on_message, pair, playing}
+use Rattle.psci_sides.proofs.Pair.{stands_off, start, turns_on}
 use Rattle.psci_sides.proofs.StepRows.{off_sendable}
 
 -- Core 0 has asked core 1 on, and the frame is in the mailbox; it is lost; core 1 was started.

@@ -1,20 +1,20 @@
 -- Machines for worked examples of frames, of any board: each core was started once and runs, and
 -- the firmware waits for one message, of which a frame is in the mailbox.
-use Rattle.std.proofs.Common.{◌∙◌, ◌∷◌, ◌≡◌, [], ap, Bool, false, inl, inr, List, None}
-use Rattle.std.proofs.Common.{Option, refl, Some, subst, suc, sym, true, zero, ℕ}
+use Rattle.std.proofs.Common.{arith}
+use Rattle.std.proofs.lemmas.Bool.Decides.{nat_tests}
+use Rattle.std.proofs.Common.{◌∙◌, ◌∷◌, ◌≡◌, [], Bool, false, inl, inr, List, None, Option, Some}
+use Rattle.std.proofs.Common.{subst, sym, true, ℕ}
 use Rattle.std.specs.Prelude.{if◌then◌else◌, replicate}
 use Rattle.std.proofs.lemmas.Option.{none-some}
 use Rattle.psci_board.specs.Board.{BoardValue}
-use Rattle.psci_board.specs.declared.node.Core.{Core}
+use Rattle.psci_board.specs.declared.draft.Core.{Core}
 use Rattle.psci_messages.specs.Message.{AckValue, MessageValue}
-use Rattle.psci_messages.specs.Slots.{SlotsValue, message_in, no_messages, slot_of}
-use Rattle.psci_messages.specs.Slots.{with_message}
+use Rattle.psci_messages.specs.Slots.{message_in, no_messages, slot_of, SlotsValue, with_message}
 use Rattle.psci_messages.specs.declared.kind.Kind.{Kind}
 use Rattle.psci_messages.specs.declared.kind.Kind.TheVariants as kinds
 use Rattle.psci_messages.specs.declared.start.Cause.TheVariants as causes
 use Rattle.psci_state.specs.declared.cores.Activity.TheVariants as activities
-use Rattle.psci_fw.specs.Seen.{FirmwareValue, seen}
-use Rattle.psci_fw_spec.specs.Phases.{Away}
+use Rattle.psci_fw.specs.Reactions.{FirmwareValue}
 use Rattle.psci_fw_spec.specs.declared.mode.SuspendMode.TheVariants.{Platform}
 use Rattle.psci_fw_spec.specs.declared.status.Status.TheVariants.{On, Off}
 use Rattle.psci_control.specs.ControlSide.{ControlValue, closed, gate_in, values_of}
@@ -160,19 +160,12 @@ nothing_in at = none-some _ at.1
 -- nothing is outstanding
 pub none_out : (k : Kind) (core : Core) (x : MessageValue)
     → message_in nothing (slot_of k core) ≡ Some x → ⊥
-none_out kinds.Down core x e = none-some _ e
-none_out kinds.Start core x e = none-some _ e
-none_out kinds.Off core x e = none-some _ e
-none_out kinds.Reset core x e = none-some _ e
+none_out k core x e = grind (arith, nat_tests)
 
 -- a frame is of use where nothing was acknowledged
 pub is_wanted : {b : BoardValue} {m : Machine} {x : MessageValue} → IsOut m x → m.acks ≡ []
     → (IsSpent b (values_of m.control) x → ⊥) → IsWanted b m x
-is_wanted out none brings = record {
-  out = out;
-  unended = λ e. nothing_in (subst (λ acks. IsIn acks e.0) none e.1.0);
-  brings = brings;
-}
+is_wanted out none brings = grind (arith, nat_tests, nothing_in)
 
 -- nothing is under way where none is in the mailbox or at a gate
 pub is_lost : {m : Machine} {x : MessageValue} → m.mail ≡ [] → m.acks ≡ []
@@ -189,37 +182,9 @@ is_lost {m} {x} mail acks kept = record {
 pub sent_once : (b : BoardValue) (m : Machine) (c number : ℕ) (x : MessageValue)
     → outstanding_in m.firmware number ≡ Some x → IsUnderWay m x
     → Serves b m (SendAgain c number) → ⊥
-sent_once b m c number x out under s =
-    s.1.1.1.frame (subst (IsUnderWay m) (ap item (sym out ∙ s.1.1.0)) under)
-  where
-    item : Option MessageValue → MessageValue
-    item None = x
-    item (Some y) = y
+sent_once b m c number x out under s = grind (arith, nat_tests)
 
 -- cores run, and the two sides agree
 pub agree : (b : BoardValue) (x : MessageValue) → Agree b (taken b x)
 unfolding playing
-agree b x = record {
-  own = λ c within. refl;
-  system = refl;
-  depths = λ n has. refl;
-  hw = λ n has. refl;
-  off = λ c within. off c;
-  away = λ c within. away c;
-}
-  where
-    off : (c : ℕ) → (seen (taken b x).firmware).phase c ≡ Away
-        → (seen (taken b x).firmware).status c ≡ Off
-    off zero e = absurd (cc)
-    off (suc zero) e = absurd (cc)
-    off (suc (suc zero)) e = absurd (cc)
-    off (suc (suc (suc zero))) e = absurd (cc)
-    off (suc (suc (suc (suc c)))) e = refl
-
-    away : (c : ℕ) → (seen (taken b x).firmware).status c ≡ Off
-        → (seen (taken b x).firmware).phase c ≡ Away
-    away zero e = absurd (cc)
-    away (suc zero) e = absurd (cc)
-    away (suc (suc zero)) e = absurd (cc)
-    away (suc (suc (suc zero))) e = absurd (cc)
-    away (suc (suc (suc (suc c)))) e = refl
+agree b x = grind (arith, nat_tests)

@@ -1,33 +1,29 @@
 -- Where a machine has no step of its own left, and no step that serves, no frame is of use, and
 -- what a core comes in for is done.
-use Rattle.std.proofs.Common.{◌<◌, ◌==◌, ◌∙◌, ◌≡◌, ◌⊎◌, ap, arith, Bool, cond, false, inl, inr}
-use Rattle.std.proofs.Common.{List, None, Option, Some, refl, subst, sym, true, ℕ}
-use Rattle.std.proofs.lemmas.Bool.{cases_eq, cond-false, cond-true, eq-eqb, eqb-true, false≢true}
-use Rattle.std.proofs.lemmas.Bool.{lt-ltb}
+use Rattle.std.proofs.Common.{◌<◌, ◌==◌, ◌∙◌, ◌≡◌, ◌⊎◌, ap, arith, false, inl, inr, List, None}
+use Rattle.std.proofs.Common.{Option, refl, Some, subst, sym, ℕ}
+use Rattle.std.proofs.lemmas.Bool.{cases_eq, cond-false, cond-true, eq-eqb, eqb-true, lt-ltb}
 use Rattle.std.proofs.lemmas.Bool.Decides.{nat_tests}
 use Rattle.std.specs.Prelude.{nat_lt}
 use Rattle.std.proofs.lemmas.Option.{none-some}
 use Rattle.psci_board.specs.Board.{BoardValue, cores}
 use Rattle.psci_ctl_spec.specs.declared.call.CtlCall.TheVariants as asked
-use Rattle.psci_ctl_spec.specs.Replies.{reply}
 use Rattle.psci_ctl_spec.specs.Values.{Values as Controlled}
-use Rattle.psci_fw.specs.Seen.{seen as remembers}
+use Rattle.psci_fw.specs.Reactions.{seen as remembers}
 use Rattle.psci_fw_spec.specs.Values.{Values}
 use Rattle.psci_messages.specs.Message.{MessageValue}
 use Rattle.psci_messages.specs.Slots.{OfCore, OfSystem, Slot, slot_of}
 use Rattle.psci_messages.specs.declared.kind.Kind.{Kind}
-use Rattle.psci_board.specs.declared.node.Core.{Core}
+use Rattle.psci_board.specs.declared.draft.Core.{Core}
 use Rattle.psci_fw_state.specs.Seen.{message_shown}
 use Rattle.psci_enter.specs.Again.{outstanding_in}
-use Rattle.psci_fw_spec.specs.Lives.{in_life, start_of_life}
-use Rattle.psci_fw_spec.specs.Phases as phases
-use Rattle.psci_headline.specs.Agreement.{AgreeIn}
-use Rattle.psci_world_spec.specs.Histories.{controller_values, firmware_values}
-use Rattle.psci_world_spec.specs.Places.{place}
+use Rattle.psci_fw_spec.specs.Changes.{in_life}
+use Rattle.psci_headline.specs.Laws.{AgreeIn}
+use Rattle.psci_world_spec.specs.Legal.{controller_values, firmware_values, place}
 use Rattle.psci_world_spec.specs.declared.place.Place.TheVariants.{Stopped}
 use Rattle.psci_port.specs.Port.{Act, Delivers, Port, stage_at, state, words}
 use Rattle.psci_port.specs.Rules as port
-use Rattle.psci_port.specs.Served.{AreHeard, IsSpent, ends}
+use Rattle.psci_port.specs.Served.{AreHeard, IsSpent}
 use Rattle.psci_port.specs.Stages.{Normal, place_of}
 use Rattle.psci_port.specs.Waiting.{waits}
 use Rattle.psci_port.proofs.Mirrors.{IsMirror}
@@ -41,28 +37,17 @@ use Rattle.psci_sides.specs.Kept.{Agree, NoneToServe}
 use Rattle.psci_sides.specs.Machine.{Machine}
 use Rattle.psci_sides.specs.Resting.{Goes, IsAtRest}
 use Rattle.psci_sides.specs.Seen.{IsMachineOf, WasSent}
-use Rattle.psci_sides.specs.Steps.{DeliverKept, DeliverMail, Hear, Holds, SendAgain, Step, TakeAck}
-use Rattle.psci_sides.specs.Steps.{TakeLock}
+use Rattle.psci_sides.specs.Steps.{DeliverKept, DeliverMail, Hear, Holds, SendAgain, Step}
+use Rattle.psci_sides.specs.Steps.{TakeAck, TakeLock}
 use Rattle.psci_sides.proofs.Agreeing.{agree as agreeing}
-use Rattle.psci_sides.proofs.Around.{there}
-use Rattle.psci_sides.proofs.Given.{Given, IsSeen}
+use Rattle.psci_sides.proofs.Commanding.{there}
+use Rattle.psci_sides.proofs.Carrying.{Given, IsSeen}
 use Rattle.psci_sides.proofs.Resting.{none_due, resting}
 
 -- what cannot be otherwise brings nothing about
 spent_stable : (b : BoardValue) (v : Controlled) (x : MessageValue)
     → ((IsSpent b v x → ⊥) → ⊥) → IsSpent b v x
-spent_stable b v x not = record {
-  depths = λ level within. elim (cases_eq _ _) [
-    | inl e ↦ e
-    | inr ne ↦ absurd (not (λ s. ne (s.depths level within)))
-  ];
-  left = by (ends x (reply b v (asked.Deliver x))) refl;
-}
-  where
-    by : (t : Bool) → ends x (reply b v (asked.Deliver x)) ≡ t
-        → ends x (reply b v (asked.Deliver x)) ≡ false
-    by false e = e
-    by true e = absurd (not (λ s. false≢true (sym s.left ∙ e)))
+spent_stable b v x not = grind (arith, nat_tests)
 
 module _ (b : BoardValue) (given : Given b) (m : Machine) (acts : List Act)
     (seen : IsSeen b m acts) (still : (x : Step) → Goes b m x → ⊥)
@@ -113,11 +98,7 @@ module _ (b : BoardValue) (given : Given b) (m : Machine) (acts : List Act)
       → n ≡ heard m.control x.core.number
       → waits m.control.controller.board (values_of m.control) (λ k. n) (asked.Deliver x)
       ≡ waits b p.values (words p) (asked.Deliver x)
-  waits_so x n has e =
-      ap (λ n. waits m.control.controller.board (values_of m.control) (λ k. n) (asked.Deliver x))
-      (e ∙ word_heard x.core.number has ∙ (is.each x.core.number has).word)
-      ∙ ap (λ y. waits y (values_of m.control) (words p) (asked.Deliver x)) is.control.board
-      ∙ ap (λ (v : Controlled). waits b v (words p) (asked.Deliver x)) is.control.values
+  waits_so x n has e = grind (arith, nat_tests, word_heard)
 
   frames : (x : MessageValue) → IsUnderWay m x → IsWanted b m x → ⊥
   frames x under wanted = by under (was_sent x under).0 (may x under wanted.out)
@@ -152,26 +133,12 @@ module _ (b : BoardValue) (given : Given b) (m : Machine) (acts : List Act)
 
     -- so the firmware was kept
     same : remembers m.firmware ≡ firmware_values b p.past
-    same = elim is.firmware.values [
-      | inl e ↦ e
-      | inr anew ↦ absurd (anew.none c normal)
-    ]
+    same = grind (arith, nat_tests, normal)
 
     -- and its life is the power controller's
     own_life : (life : ℕ) → AgreeIn b (controller_values b p.past).starts (place b p.past)
         (in_life b life (firmware_values b p.past)) → (firmware_values b p.past).life ≡ life
-    own_life life agrees = by (life == (firmware_values b p.past).life) refl
-        (agrees.runs c has (mirror.places c ∙ ap place_of normal))
-      where
-        first_no : (t : Bool) → cond t phases.Pending phases.Away ≡ phases.Running → ⊥
-        first_no true e = cc
-        first_no false e = cc
-
-        by : (t : Bool) → (life == (firmware_values b p.past).life) ≡ t
-            → (cond t (firmware_values b p.past) (start_of_life b life)).phase c ≡ phases.Running
-            → (firmware_values b p.past).life ≡ life
-        by true e at = sym (eqb-true _ _ e)
-        by false e at = absurd (first_no (c == 0) at)
+    own_life life agrees = grind (arith, nat_tests, eqb-true)
 
     some_life : (o : Option ℕ) → (controller_values b p.past).life ≡ o
         → o ≡ Some (remembers m.firmware).life

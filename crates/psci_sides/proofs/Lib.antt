@@ -1,7 +1,5 @@
 pub mod Carrying
-pub mod Around
 pub mod Commanding
-pub mod Given
 pub mod Locking
 pub mod Serving
 pub mod Calling
@@ -13,28 +11,21 @@ pub mod Resetting
 pub mod Arming
 pub mod Rising
 pub mod Restarting
-pub mod Running
 pub mod Sound
 pub mod Agreeing
-pub mod Posts
 pub mod Resting
-pub mod Weighing
 pub mod Settling
 pub mod Frames
-pub mod Sends
-pub mod Owing
-pub mod Quietly
-pub mod Paying
-pub mod Visiting
 pub mod Acking
-pub mod Listed
+pub mod Quietly
+pub mod Visiting
 pub mod Ended
-pub mod Dues
 pub mod Useful
 pub mod Delivered
 pub mod Finite
 -- Worked examples.
 pub mod Pair
+pub mod Tested
 mod MachineRows
 mod StepRows
 mod MadeRows

@@ -1,65 +1,45 @@
 -- Steps of a core without the firmware, and what comes from outside.
-use Rattle.std.proofs.Common.{◌<◌, ◌==◌, ◌∙◌, ◌∷◌, ◌++◌, ◌≡◌, [], ap, Bool, cond, false, inl, inr}
-use Rattle.std.proofs.Common.{List, Option, None, Some, refl, subst, sym, true, ℕ}
-use Rattle.std.proofs.lemmas.Bool.{false≢true}
+use Rattle.std.proofs.Common.{arith}
+use Rattle.std.proofs.lemmas.Bool.Decides.{nat_tests}
+use Rattle.std.proofs.Common.{◌++◌, ◌<◌, ◌==◌, ◌∙◌, ◌∷◌, ◌≡◌, [], ap, Bool, cond, false, List, refl}
+use Rattle.std.proofs.Common.{subst, sym, true, ℕ}
 use Rattle.psci_board.specs.Board.{BoardValue, cores}
-use Rattle.psci_messages.specs.declared.start.Start.{Start}
-use Rattle.psci_port.specs.Port.{Act, Locks, Port, Row, Stands, TakesUp, Unlocks}
-use Rattle.psci_port.specs.Port.{state, step, stopping, taking_up}
+use Rattle.psci_port.specs.Port.{Act, Locks, Port, Row, Stands, state, step, stopping, TakesUp}
+use Rattle.psci_port.specs.Port.{taking_up, Unlocks}
 use Rattle.psci_port.specs.Rules as rules
 use Rattle.psci_port.specs.Stages as stages
 use Rattle.psci_port.specs.Stages.{Stage}
-use Rattle.psci_port.proofs.Keeping.{IsKept}
+use Rattle.psci_port.proofs.Locks.{IsKept}
 use Rattle.psci_port.proofs.Running.{run_kept}
 use Rattle.psci_control.proofs.Apart.{apart_side}
 use Rattle.psci_enter.specs.declared.order.Look.{Look}
 use Rattle.psci_enter.specs.declared.order.Look.TheVariants as look
 use Rattle.psci_enter.specs.declared.post.Door.{Door}
 use Rattle.psci_enter.specs.declared.post.Post.{Post}
-use Rattle.psci_enter.specs.declared.post.Post.TheVariants.{Waiting, Entering, Running, Leaving}
-use Rattle.psci_enter.specs.declared.post.Post.TheVariants.{Armed, Woken}
+use Rattle.psci_enter.specs.declared.post.Post.TheVariants.{Waiting}
 use Rattle.psci_enter.specs.declared.side.FirmwareSide.{FirmwareSide}
-use Rattle.psci_enter.specs.Side.{entering_by, looked, taking_up as takes}
+use Rattle.psci_enter.specs.Side.{looked, taking_up as takes}
 use Rattle.psci_enter.specs.SideOf.{Fits, core_of}
 use Rattle.psci_enter.proofs.Keeping.{quiet_firmware}
 use Rattle.psci_enter.proofs.Standing.{row_same, stands, takes_up}
 use Rattle.psci_sides.specs.Machine.{Machine, side_of, with_core}
-use Rattle.psci_sides.specs.Steps.{TakeLock, GiveLock, LookAtDoor, Stand}
-use Rattle.psci_sides.specs.Steps.{May, after}
-use Rattle.psci_sides.specs.Steps.{Holds, found_in, may_hold}
+use Rattle.psci_sides.specs.Steps.{after, found_in, GiveLock, Holds, LookAtDoor, May, may_hold}
+use Rattle.psci_sides.specs.Steps.{Stand, TakeLock}
 use Rattle.psci_sides.specs.Seen.{IsLent, IsMachineOf, look_acts}
-use Rattle.psci_sides.proofs.Around.{its_side, one_core, same_core}
-use Rattle.psci_sides.proofs.Commanding.{is_within, lent_none, started_out}
-use Rattle.psci_sides.proofs.Given.{Follows, Given, IsSeen, no_act, one_act}
+use Rattle.psci_sides.proofs.Commanding.{is_within, its_side, lent_none, one_core, started_out}
+use Rattle.psci_sides.proofs.Carrying.{Follows, Given, IsSeen, one_act}
 
 -- a core that may have the lock in the machine may have it in the port
 holds_there : (post : Post) (y : Stage) → Fits post y → may_hold post ≡ true
     → stages.may_hold y ≡ true
-holds_there Waiting y fits is = absurd (false≢true is)
-holds_there (Entering s) y fits is = ap stages.may_hold fits
-holds_there Running y fits is = ap stages.may_hold fits
-holds_there Leaving y fits is = ap stages.may_hold fits
-holds_there Armed y fits is = elim fits [
-  | inl at ↦ ap stages.may_hold at
-  | inr at ↦ ap stages.may_hold at
-]
-holds_there Woken y fits is = ap stages.may_hold fits
+holds_there post y fits is = grind (arith, nat_tests)
 
 -- taking a start up leaves the core what it is
 takes_core : (door : Door) (s : FirmwareSide) → core_of (takes door s) ≡ core_of s
-takes_core door s = by door.start
-  where
-    by : (o : Option Start) → core_of (entering_by o (record s { used = door.opened })) ≡ core_of s
-    by None = refl
-    by (Some start) = refl
+takes_core door s = grind (arith, nat_tests)
 
 takes_used : (door : Door) (s : FirmwareSide) → (takes door s).used ≡ door.opened
-takes_used door s = by door.start
-  where
-    by : (o : Option Start)
-        → (entering_by o (record s { used = door.opened })).used ≡ door.opened
-    by None = refl
-    by (Some start) = refl
+takes_used door s = grind (arith, nat_tests)
 
 module _ (b : BoardValue) (given : Given b) (m : Machine) (acts : List Act)
     (seen : IsSeen b m acts) where
@@ -74,10 +54,7 @@ module _ (b : BoardValue) (given : Given b) (m : Machine) (acts : List Act)
 
   -- who has the lock in the machine has it in the port
   pub has_lock : (c : ℕ) → Holds b m c → rules.HasLock p c
-  has_lock c may = (
-    sym is.lock ∙ may.1,
-    subst (λ o. IsLent c (m.side c).post o (p.row c).begun) may.2 (is.each c may.0).lent,
-  )
+  has_lock c may = grind (arith, nat_tests)
 
   -- The lock -------------------------------------------------------------------------------------
 
@@ -119,38 +96,15 @@ module _ (b : BoardValue) (given : Given b) (m : Machine) (acts : List Act)
 
   -- A core looks, and stands ---------------------------------------------------------------------
 
-  abbrev seen_by : ℕ → FirmwareSide
-  seen_by c = side_of m c
-
   -- one that is outside was lent nothing
   pub none_lent : (c : ℕ) → c < cores b → (post : Post) → is_within ((p.row c).stage) ≡ false
       → IsLent c post (m.station c).lent (p.row c).begun
-  none_lent c has post out =
-      let none = lent_none p kept c (m.side c).post out (m.station c).lent (is.each c has).lent in
-      subst (λ o. IsLent c post o (p.row c).begun) (sym none)
-      (subst (λ o. IsLent c (m.side c).post o (p.row c).begun) none (is.each c has).lent)
+  none_lent c has post out = grind (arith, nat_tests, lent_none)
 
   -- what takes nothing up leaves the port as it is
   pub stays_at : (c : ℕ) (s : FirmwareSide) → c < cores b → s.used ≡ (m.side c).used
       → s.post ≡ (m.side c).post → IsSeen b (with_core m c s (m.station c)) acts
-  stays_at c s has used post =
-      let was = is.each c has in no_act b m _ acts seen (record {
-        each = same_core b m p is.each c s (m.station c) (record {
-          used = used ∙ was.used;
-          post = subst (λ x. Fits x (p.row c).stage) (sym post) was.post;
-          opened = was.opened;
-          start = was.start;
-          word = was.word;
-          held = was.held;
-          lent = subst (λ x. IsLent c x (m.station c).lent (p.row c).begun) (sym post) was.lent;
-        });
-        firmware = is.firmware;
-        control = is.control;
-        gates = is.gates;
-        lock = is.lock;
-        mail = is.mail;
-        power = is.power;
-      })
+  stays_at c s has used post = grind (arith, nat_tests)
 
   look_by : (c : ℕ) (pending : Bool) (l : Look) → found_in m c pending ≡ l
       → May b m (LookAtDoor c pending)

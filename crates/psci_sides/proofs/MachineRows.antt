@@ -1,13 +1,12 @@
 -- Worked examples: a run of a machine of two cores, which acts its steps are, and for each clause
 -- of what holds of a machine a state that breaks it.
 use Rattle.std.proofs.Common.{◌∷◌, ◌++◌, ◌≡◌, [], arith, Bool, false, inl, inr, length, List, map}
-use Rattle.std.proofs.Common.{◌<◌, None, Option, refl, Some, sym, true, ℕ}
-use Rattle.std.proofs.lemmas.Bool.{eqb-false, false≢true}
+use Rattle.std.proofs.Common.{None, Option, refl, Some, sym, true, ℕ}
+use Rattle.std.proofs.lemmas.Bool.{eqb-false}
 use Rattle.std.proofs.lemmas.Option.{none-some}
 use Rattle.psci_board.proofs.Tables.{◌⇒◌, Gives}
 use Rattle.psci_messages.specs.declared.start.Cause.TheVariants as causes
 use Rattle.psci_ctl_spec.specs.declared.call.CtlCall.TheVariants as asked
-use Rattle.psci_fw_spec.specs.declared.call.FwCall.TheVariants as calls
 use Rattle.psci_control.specs.declared.door.DoorOrder.TheVariants.{Open, Write}
 use Rattle.psci_control.specs.declared.order.Ending.TheVariants as endings
 use Rattle.psci_control.specs.declared.order.Order.TheVariants.{End, Raise, Switch}
@@ -18,19 +17,19 @@ use Rattle.psci_enter.specs.declared.post.Post.TheVariants.{Waiting, Entering, L
 use Rattle.psci_enter.specs.declared.post.Post.TheVariants.{Woken}
 use Rattle.psci_port.specs.Port.{Arms, Cuts, Locks, Rises, Rouses, Sleeps, Stands, TakesUp, Turns}
 use Rattle.psci_port.specs.Port.{Unlocks, Writes}
-use Rattle.psci_sides.specs.Kept.{Agree, AllStill, IsLocked, IsStill, NoneCut, NoneLost}
-use Rattle.psci_sides.specs.Kept.{TakesItsLast, executes, hearing}
-use Rattle.psci_sides.specs.Machine.{Machine, carried, empty, has_stood, new_side, with_core}
+use Rattle.psci_sides.specs.Kept.{Agree, AllStill, EachTakesItsLast, executes, hearing, IsStill}
+use Rattle.psci_sides.specs.Kept.{TakesItsLast}
+use Rattle.psci_sides.specs.Machine.{Machine, carried, has_stood}
 use Rattle.psci_sides.specs.Seen.{Shows}
 use Rattle.psci_sides.specs.Steps.{ArmCore, BeginEntry, CutPower, GiveLock, Hear, LookAtDoor}
 use Rattle.psci_sides.specs.Steps.{RiseCore, RouseCore, ServeDoor, SleepCore, Stand, Step, TakeLock}
 use Rattle.psci_sides.specs.Steps.{TurnCore, after, came_back, due_at, found_in, may_hold, wake_of}
-use Rattle.psci_sides.proofs.Pair.{anew, arms_off, boot, both_run, cpu_off, done, first_start}
-use Rattle.psci_sides.proofs.Pair.{goes_off, inside_a_call, inside_off, off_again, off_message}
-use Rattle.psci_sides.proofs.Pair.{on_start}
+use Rattle.psci_sides.proofs.Pair.{anew, arms_off, boot, both_run, done, first_start, goes_off}
+use Rattle.psci_sides.proofs.Pair.{inside_a_call, inside_off, off_again, off_message, on_start}
 use Rattle.psci_sides.proofs.Pair.{open_on, pair, playing, rises_off, roused_off, sleeps_off}
-use Rattle.psci_sides.proofs.Pair.{stands_off}
-use Rattle.psci_sides.proofs.Pair.{started_again, started_armed, turns_off, turns_on}
+use Rattle.psci_sides.proofs.Pair.{stands_off, start, started_again, started_armed, turns_off}
+use Rattle.psci_sides.proofs.Pair.{turns_on}
+use Rattle.psci_sides.proofs.Tested.{Awake, failing, Heard, Holder, Inside, Powered}
 
 -- The run ----------------------------------------------------------------------------------------
 
@@ -182,48 +181,30 @@ shows = (refl, refl, refl, refl, refl, refl, refl, refl, refl, refl, refl, refl,
 
 -- What breaks what holds -------------------------------------------------------------------------
 
--- the power, of a core that runs and of an armed one; the depth; and the lock
-of_power_and_lock : (NoneCut pair (record (done both_run) { cut = λ level place. true }) → ⊥)
-    × (NoneCut pair (record (done arms_off) { cut = λ level place. true }) → ⊥)
-    × (NoneCut pair (record (done both_run) { depth = λ level place. 3 }) → ⊥)
-    × (IsLocked pair (record (done stands_off) { lock = Some 1 }) → ⊥)
-    × (IsLocked pair (record (done inside_a_call) { lock = None }) → ⊥)
-unfolding playing
-of_power_and_lock = (
-  λ is. false≢true (sym (is.powered 1 0 (omega arith) (omega arith) refl)),
-  λ is. false≢true (sym (is.powered 1 0 (omega arith) (omega arith) refl)),
-  λ is. eqb-false 3 0 refl (is.awake 1 0 (omega arith) (omega arith) refl),
-  λ is. false≢true (is.holder 1 (omega arith) refl),
-  λ is. none-some 1 (is.inside 1 (calls.Smc cpu_off) (omega arith) refl),
-)
-
 -- a core that waits, or is armed, and whose word was not said: its wake-up waits for ever
 abbrev unsaid : List Step → Machine
 unsaid steps = record (done steps) {
   station = λ k. record ((done steps).station k) { word = 0 };
 }
 
-wake_lost : (NoneLost pair (unsaid stands_off) → ⊥) × (NoneLost pair (unsaid roused_off) → ⊥)
+-- what fails at moments of the run, and of what is no such moment: power, depths, lock, wake-up
+each_kept : Gives (λ (m : Machine). failing pair m)
+    (done boot ⇒ [] ∷ done both_run ⇒ [] ∷ done inside_a_call ⇒ [] ∷ done inside_off ⇒ []
+    ∷ done stands_off ⇒ [] ∷ done goes_off ⇒ [] ∷ done arms_off ⇒ [] ∷ done sleeps_off ⇒ []
+    ∷ done roused_off ⇒ [] ∷ done rises_off ⇒ [] ∷ done turns_off ⇒ [] ∷ done at_its_door ⇒ []
+    ∷ record (done both_run) { cut = λ level place. true } ⇒ (Powered ∷ [])
+    ∷ record (done arms_off) { cut = λ level place. true } ⇒ (Powered ∷ [])
+    ∷ record (done both_run) { depth = λ level place. 3 } ⇒ (Awake ∷ [])
+    ∷ record (done stands_off) { lock = Some 1 } ⇒ (Holder ∷ [])
+    ∷ record (done inside_a_call) { lock = None } ⇒ (Inside ∷ [])
+    ∷ unsaid stands_off ⇒ (Heard ∷ []) ∷ unsaid roused_off ⇒ (Awake ∷ Heard ∷ []) ∷ [])
 unfolding playing
-wake_lost = (
-  λ not. elim (not 1 (omega arith) refl) [
-    | inl low ↦ let no : 1 < 1 = low in absurd (omega (arith, no))
-    | inr stood ↦ false≢true (sym stood.1)
-  ],
-  λ not. elim (not 1 (omega arith) refl) [
-    | inl low ↦ let no : 1 < 1 = low in absurd (omega (arith, no))
-    | inr stood ↦ false≢true (sym stood.1)
-  ],
-)
+each_kept = refl
 
--- a door that is open for another start than stands there
-abbrev another_start : Machine
-another_start = with_core (done open_on) 1 (new_side 1)
-    (record empty { door = record { opened = 1; start = None } })
-
-takes_another : TakesItsLast another_start (LookAtDoor 1 false) → ⊥
+-- each step of a run counts, and not the newest one alone
+each_enters : EachTakesItsLast pair start (TakeLock 0 ∷ BeginEntry 0 on_start ∷ []) → ⊥
 unfolding playing
-takes_another last = none-some on_start ((last refl).0)
+each_enters each = search arith
 
 enters_by_another : TakesItsLast (done turns_on) (BeginEntry 1 first_start) → ⊥
 unfolding playing

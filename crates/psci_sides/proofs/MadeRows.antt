@@ -1,18 +1,18 @@
 -- Worked examples: a firmware that was made anew, and a side that keeps no message back.
-use Rattle.std.proofs.Common.{◌==◌, ◌≡◌, ◌∙◌, ◌∷◌, [], ap, arith, false, None, refl, Some, suc, sym}
-use Rattle.std.proofs.Common.{zero, ℕ}
+use Rattle.std.proofs.Common.{◌==◌, ◌∙◌, ◌∷◌, ◌≡◌, [], ap, arith, false, None, refl, Some, suc}
+use Rattle.std.proofs.Common.{sym, zero, ℕ}
 use Rattle.std.proofs.lemmas.Bool.{cond-false, ne_eqb}
 use Rattle.std.proofs.lemmas.Bool.Decides.{nat_tests}
 use Rattle.std.proofs.lemmas.Option.{none-some}
 use Rattle.psci_board.specs.Board.{cores}
 use Rattle.psci_messages.specs.Message.{MessageValue}
-use Rattle.psci_ctl_spec.specs.Legal.{IsSendable}
+use Rattle.psci_ctl_spec.specs.History.{IsSendable}
 use Rattle.psci_ctl.specs.Seen.{ControllerValue}
 use Rattle.psci_control.specs.ControlSide.{IsControlSide, gate_in}
 use Rattle.psci_control.specs.declared.gate.Gate.{Gate}
-use Rattle.psci_fw_spec.specs.Lives.{start_of_life}
+use Rattle.psci_fw_spec.specs.Changes.{start_of_life}
 use Rattle.psci_fw_spec.specs.Values.{Values}
-use Rattle.psci_fw.specs.Seen.{seen}
+use Rattle.psci_fw.specs.Reactions.{seen}
 use Rattle.psci_messages.specs.Slots.{OfCore, OfSystem, Slot}
 use Rattle.psci_sides.specs.Steps.{IsMadeAnew}
 use Rattle.psci_sides.proofs.Pair.{anew, on_message, pair, playing}

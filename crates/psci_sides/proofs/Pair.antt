@@ -1,10 +1,9 @@
 -- A machine of two cores for worked examples, and a run of it: core 0 boots and turns core 1 on,
 -- which enters, and goes off. What methods leave is written out.
-use Rattle.std.proofs.Common.{◌∷◌, ◌++◌, [], false, ℕ, List, reverse}
-use Rattle.std.proofs.Common.{Option, None, Some}
+use Rattle.std.proofs.Common.{◌++◌, ◌∷◌, [], false, List, None, Option, reverse, Some, ℕ}
 use Rattle.psci_abi.specs.declared.registers.Regs.{Regs}
 use Rattle.psci_board.specs.Board.{BoardValue}
-use Rattle.psci_fw_spec.specs.psci_abi.declared.format.Format.TheVariants.{Original}
+use Rattle.psci_fw_spec.specs.psci_abi.declared.registers.Format.TheVariants.{Original}
 use Rattle.psci_messages.specs.Message.{AckValue, MessageValue}
 use Rattle.psci_messages.specs.declared.kind.Kind.TheVariants as kinds
 use Rattle.psci_messages.specs.declared.start.Cause.{Cause}
@@ -12,7 +11,7 @@ use Rattle.psci_messages.specs.declared.start.Cause.TheVariants as causes
 use Rattle.psci_messages.specs.declared.start.Start.{Start}
 use Rattle.psci_state.specs.declared.cores.Activity.{Activity}
 use Rattle.psci_state.specs.declared.cores.Activity.TheVariants as activities
-use Rattle.psci_fw.specs.Seen.{FirmwareValue}
+use Rattle.psci_fw.specs.Reactions.{FirmwareValue}
 use Rattle.psci_fw_spec.specs.declared.mode.SuspendMode.TheVariants.{Platform}
 use Rattle.psci_fw_spec.specs.declared.status.Status.TheVariants.{On, Off, Pending}
 use Rattle.psci_fw_state.specs.Seen.{values_in}
@@ -20,14 +19,14 @@ use Rattle.psci_fw_state.specs.declared.row.CoreRow.{CoreRow}
 use Rattle.psci_control.specs.declared.gate.Gate.{Gate}
 use Rattle.psci_control.specs.ControlSide.{ControlValue, closed}
 use Rattle.psci_enter.specs.declared.post.Post.{Post}
-use Rattle.psci_enter.specs.declared.post.Post.TheVariants.{Waiting, Entering, Running, Leaving}
-use Rattle.psci_enter.specs.declared.post.Post.TheVariants.{Armed, Woken}
+use Rattle.psci_enter.specs.declared.post.Post.TheVariants.{Armed, Entering, Leaving, Running}
+use Rattle.psci_enter.specs.declared.post.Post.TheVariants.{Waiting, Woken}
 use Rattle.psci_world_spec.proofs.Scripts.{computing}
 use Rattle.psci_sides.specs.Machine.{Machine, carried, cold}
-use Rattle.psci_sides.specs.Steps.{BeginCall, BeginEntry, CutPower, DeliverMail, EndCall, GiveLock}
-use Rattle.psci_sides.specs.Steps.{Hear, KeepBack, LookAtDoor, ServeDoor, Stand, Step, TakeAck}
-use Rattle.psci_sides.specs.Steps.{TakeLock, ArmCore, SleepCore, RouseCore, RiseCore, TurnCore}
-use Rattle.psci_sides.specs.Steps.{after, machine}
+use Rattle.psci_sides.specs.Steps.{after, ArmCore, BeginCall, BeginEntry, CutPower, DeliverMail}
+use Rattle.psci_sides.specs.Steps.{EndCall, GiveLock, Hear, KeepBack, LookAtDoor, machine}
+use Rattle.psci_sides.specs.Steps.{RiseCore, RouseCore, ServeDoor, SleepCore, Stand, Step}
+use Rattle.psci_sides.specs.Steps.{TakeAck, TakeLock, TurnCore}
 
 -- one cluster of two cores
 abbrev pub pair : BoardValue

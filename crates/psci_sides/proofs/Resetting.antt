@@ -1,52 +1,39 @@
 -- A core is reset by itself.
-use Rattle.std.proofs.Common.{◌<◌, ◌==◌, ◌∙◌, ◌∷◌, ◌≡◌, [], ap, Bool, cond, false}
-use Rattle.std.proofs.Common.{length, List, Option, None, Some, refl, subst, sym}
-use Rattle.std.proofs.Common.{true, ℕ}
-use Rattle.std.proofs.lemmas.Bool.{eqb-true, false≢true}
+use Rattle.std.proofs.Common.{arith}
+use Rattle.std.proofs.lemmas.Bool.Decides.{nat_tests}
+use Rattle.std.proofs.Common.{◌<◌, ◌∙◌, ◌∷◌, ◌≡◌, [], ap, length, List, Option, refl, Some, subst}
+use Rattle.std.proofs.Common.{sym, true, ℕ}
 use Rattle.psci_board.specs.Board.{BoardValue, cores}
 use Rattle.psci_messages.specs.Message.{AckValue}
 use Rattle.psci_messages.specs.declared.start.Cause.TheVariants as causes
 use Rattle.psci_ctl_spec.specs.declared.call.CtlCall.{CtlCall}
-use Rattle.psci_ctl_spec.specs.declared.kick.Kick.TheVariants as kicks
 use Rattle.psci_ctl_spec.specs.declared.reply.CtlReply.{CtlReply}
-use Rattle.psci_ctl_spec.specs.declared.reply.CtlReply.TheVariants as replies
-use Rattle.psci_ctl_spec.specs.Effects.{Effect, Starts, effect_of}
-use Rattle.psci_ctl_spec.specs.Follows.{MayFollow}
-use Rattle.psci_ctl_spec.specs.Replies.{reply}
+use Rattle.psci_ctl_spec.specs.Replies.{Effect, effect_of, reply, Starts}
+use Rattle.psci_ctl_spec.specs.History.{MayFollow}
 use Rattle.psci_world_spec.specs.declared.event.Event.TheVariants as events
 use Rattle.psci_world_spec.specs.declared.said.Record.{Record}
-use Rattle.psci_world_spec.specs.Histories.{acks}
-use Rattle.psci_world_spec.specs.Legal.{said_by}
-use Rattle.psci_port.specs.Port.{Act, Port, Resets}
-use Rattle.psci_port.specs.Port.{moved, row_by, started, state, step}
-use Rattle.psci_port.proofs.Keeping.{IsKept}
+use Rattle.psci_world_spec.specs.Legal.{acks, said_by}
+use Rattle.psci_port.specs.Port.{Act, moved, Port, Resets, row_by, state, step}
+use Rattle.psci_port.proofs.Locks.{IsKept}
 use Rattle.psci_port.proofs.Running.{run_kept}
-use Rattle.psci_control.specs.ControlSide.{ControlValue}
-use Rattle.psci_control.specs.ControlSide.{orders_in, reply_in}
-use Rattle.psci_control.specs.ControlSide.{values_of}
+use Rattle.psci_control.specs.ControlSide.{ControlValue, orders_in, reply_in}
 use Rattle.psci_control.specs.Orders.{ack_in}
 use Rattle.psci_control.specs.SideOf as control
 use Rattle.psci_control.proofs.Commanded.{resets_side}
-use Rattle.psci_enter.specs.Side.{at}
 use Rattle.psci_enter.specs.SideOf.{IsFirmwareOf, is_started}
-use Rattle.psci_enter.specs.declared.post.Post.TheVariants.{Waiting}
 use Rattle.psci_enter.proofs.Keeping.{quiet_firmware}
-use Rattle.psci_sides.specs.Machine.{Machine, commanded, side_of}
-use Rattle.psci_sides.specs.Steps.{Asks, May}
-use Rattle.psci_sides.specs.Steps.{ResetCore, after, came_back, reset_of}
+use Rattle.psci_sides.specs.Machine.{Machine, commanded}
+use Rattle.psci_sides.specs.Steps.{after, Asks, came_back, May, reset_of, ResetCore}
 use Rattle.psci_sides.specs.Seen.{IsCoreOf, IsMachineOf}
-use Rattle.psci_sides.proofs.Carrying.{done}
+use Rattle.psci_sides.proofs.Carrying.{done, Follows, Given, IsSeen, one_act}
 use Rattle.psci_sides.proofs.Commanding.{carried_now, left_machine}
-use Rattle.psci_sides.proofs.Given.{Follows, Given, IsSeen, one_act}
 use Rattle.psci_sides.proofs.Delivering.{still_waits}
 
 -- a reset that is not ignored starts the core
 reset_starts : (b : BoardValue) (c : ℕ) (r : CtlReply) → is_started r ≡ true
     → effect_of b (reset_of c) r ≡ Starts c causes.Reset
 unfolding effect_of
-reset_starts b c (replies.Delivery d) is = absurd (false≢true is)
-reset_starts b c (replies.Kick (kicks.Started s)) is = refl
-reset_starts b c (replies.Kick kicks.Ignored) is = absurd (false≢true is)
+reset_starts b c r is = grind (arith, nat_tests)
 
 module _ (b : BoardValue) (given : Given b) (m : Machine) (acts : List Act)
     (seen : IsSeen b m acts) where
@@ -77,9 +64,7 @@ module _ (b : BoardValue) (given : Given b) (m : Machine) (acts : List Act)
     starts = Starts c causes.Reset
 
     now_is : now (reset_of c) ≡ starts
-    now_is = reset_starts b c (reply b p.values (reset_of c))
-        (sym (ap (λ x. is_started (reply x (values_of m.control) (reset_of c))) is.control.board
-        ∙ ap (λ v. is_started (reply b v (reset_of c))) is.control.values) ∙ may_start)
+    now_is = grind (arith, nat_tests, reset_starts)
 
     abbrev told : Record
     told = record {
@@ -97,25 +82,7 @@ module _ (b : BoardValue) (given : Given b) (m : Machine) (acts : List Act)
 
     back_core : (d : ℕ) → d < cores b → IsCoreOf d ((back starts).side d) ((back starts).station d)
         (row_by d starts (p.row d))
-    back_core d within = by (d == c) refl
-      where
-        by : (u : Bool) → (d == c) ≡ u → IsCoreOf d
-            (cond u (at Waiting (side_of m c)) (m.side d))
-            (cond u (record (m.station c) { held = true; lent = None }) (m.station d))
-            (cond u (started causes.Reset (p.row d)) (p.row d))
-        by true e = subst (λ i. IsCoreOf i (at Waiting (side_of m c))
-            (record (m.station c) { held = true; lent = None })
-            (started causes.Reset (p.row i))) (sym (eqb-true d c e))
-            (let was = is.each c has in record {
-              used = was.used;
-              post = refl;
-              opened = was.opened;
-              start = was.start;
-              word = was.word;
-              held = refl;
-              lent = refl;
-            })
-        by false e = is.each d within
+    back_core d within = grind (arith, nat_tests)
 
     reset_machine : IsMachineOf b (back starts) (moved b p starts told)
     unfolding step

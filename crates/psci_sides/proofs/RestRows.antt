@@ -14,9 +14,8 @@ use Rattle.psci_sides.specs.Steps.{ArmCore, BeginCall, BeginEntry, EndCall, Give
 use Rattle.psci_sides.specs.Steps.{RouseCore, ServeDoor, SleepCore, Stand, Step, TakeLock, TurnCore}
 use Rattle.psci_sides.proofs.Pair.{anew, arms_off, both_run, code, cpu_off, done, goes_off}
 use Rattle.psci_sides.proofs.Pair.{inside_a_call, inside_off, looked_on, off_message, on_start}
-use Rattle.psci_sides.proofs.Pair.{open_on}
-use Rattle.psci_sides.proofs.Pair.{pair, playing, rises_off, roused_off, start, started_armed}
-use Rattle.psci_sides.proofs.Pair.{turns_on}
+use Rattle.psci_sides.proofs.Pair.{open_on, pair, playing, rises_off, roused_off, start}
+use Rattle.psci_sides.proofs.Pair.{started_armed, turns_on}
 
 -- Steps that go ----------------------------------------------------------------------------------
 

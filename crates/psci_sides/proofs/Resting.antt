@@ -1,55 +1,78 @@
 -- Where a machine has no step of its own left, its port has none either, and both are at rest.
+use Rattle.std.proofs.lemmas.Bool.Decides.{nat_tests}
+use Rattle.std.specs.Prelude.{option_map}
 use Rattle.std.proofs.Common.{◌<◌, ◌==◌, ◌∙◌, ◌≡◌, ◌⊎◌, ap, arith, Bool, cond, false, inl, inr}
-use Rattle.std.proofs.Common.{List, Option, None, Some, refl, subst, sym, true, ℕ}
-use Rattle.std.specs.Prelude.{not, ◌&&◌, option_map}
+use Rattle.std.proofs.Common.{List, None, Option, refl, Some, subst, sym, true, ℕ}
 use Rattle.std.proofs.lemmas.Bool.{eqb-false}
 use Rattle.std.proofs.lemmas.Option.{none-some}
 use Rattle.psci_board.specs.Board.{BoardValue, cores}
-use Rattle.psci_ctl_spec.specs.declared.call.CtlCall.TheVariants as asked
-use Rattle.psci_ctl_spec.specs.Replies.{last_start}
-use Rattle.psci_ctl_spec.specs.Values.{Values}
-use Rattle.psci_fw_spec.specs.declared.call.FwCall.{FwCall}
 use Rattle.psci_messages.specs.Message.{MessageValue}
 use Rattle.psci_messages.specs.declared.start.Start.{Start}
+use Rattle.psci_ctl_spec.specs.Replies.{last_start}
+use Rattle.psci_ctl_spec.specs.Values.{Values}
+use Rattle.psci_ctl_spec.specs.declared.call.CtlCall.TheVariants as asked
+use Rattle.psci_fw_spec.specs.declared.call.FwCall.{FwCall}
 use Rattle.psci_world_spec.specs.declared.said.Record.{Record}
-use Rattle.psci_port.specs.Port.{Act, Arms, Calls, Cuts, Delivers, Enters, Finishes, Locks, Opens}
-use Rattle.psci_port.specs.Port.{Port, stage_at, state, words}
-use Rattle.psci_port.specs.Port.{Reboots, Resets, Restarts, Rises, Rouses, Sleeps, Stands, Takes}
-use Rattle.psci_port.specs.Port.{TakesUp, Turns, Unlocks, Wakes, Writes}
+use Rattle.psci_port.specs.Port.{Act, Arms, Enters, Finishes, Locks, Opens, Port, Sleeps, stage_at}
+use Rattle.psci_port.specs.Port.{Stands, state, TakesUp, Turns, Unlocks, words, Writes}
 use Rattle.psci_port.specs.Resting as port
 use Rattle.psci_port.specs.Stages as stages
-use Rattle.psci_port.specs.Stages.{Stage, is_inside}
+use Rattle.psci_port.specs.Stages.{is_inside, is_started, Stage}
 use Rattle.psci_port.specs.Waiting.{waits}
-use Rattle.psci_port.proofs.Keeping.{IsKept}
+use Rattle.psci_port.proofs.Locks.{IsKept}
 use Rattle.psci_port.proofs.Running.{run_kept}
+use Rattle.psci_control.specs.ControlSide.{gate_in, telling, values_of, waits_in}
 use Rattle.psci_control.specs.declared.door.DoorOrder.{DoorOrder}
 use Rattle.psci_control.specs.declared.door.DoorOrder.TheVariants as orders
 use Rattle.psci_control.specs.declared.gate.Gate.{Gate}
-use Rattle.psci_control.specs.ControlSide.{gate_in, telling, values_of, waits_in}
+use Rattle.psci_enter.specs.Side.{found, may_look}
+use Rattle.psci_enter.specs.SideOf.{Fits}
 use Rattle.psci_enter.specs.declared.order.Look.TheVariants as look
 use Rattle.psci_enter.specs.declared.post.Door.{Door}
 use Rattle.psci_enter.specs.declared.post.Post.{Post}
+use Rattle.psci_enter.specs.declared.post.Post.TheVariants.{Armed, Entering, Leaving, Running}
+use Rattle.psci_enter.specs.declared.post.Post.TheVariants.{Waiting, Woken}
 use Rattle.psci_enter.specs.declared.side.FirmwareSide.{FirmwareSide}
-use Rattle.psci_enter.specs.Side.{found, is_suspended}
-use Rattle.psci_sides.specs.Kept.{IsStill, hearing}
+use Rattle.psci_sides.specs.Kept.{hearing, IsStill}
 use Rattle.psci_sides.specs.Machine.{Machine, side_of, starts_in}
-use Rattle.psci_sides.specs.Resting.{Goes, IsAtRest, is_entering}
+use Rattle.psci_sides.specs.Resting.{Goes, is_entering, IsAtRest}
 use Rattle.psci_sides.specs.Seen.{IsLent, IsMachineOf}
 use Rattle.psci_sides.specs.Steps.{ArmCore, BeginEntry, EndCall, GiveLock, Holds, LookAtDoor}
 use Rattle.psci_sides.specs.Steps.{ServeDoor, SleepCore, Stand, Step, TakeLock, TurnCore}
-use Rattle.psci_sides.proofs.Around.{there}
-use Rattle.psci_sides.proofs.Given.{Given, IsSeen}
-use Rattle.psci_sides.proofs.Posts.{IsPostAt, enters_at, post_at, takes_at}
+use Rattle.psci_sides.proofs.Commanding.{there}
+use Rattle.psci_sides.proofs.Carrying.{Given, IsSeen}
 use Rattle.psci_sides.proofs.Sound.{none_shown}
+
+-- Where the monitor of a core is, by the stage where the core is ----------------------------------
+
+-- the posts of a core at this stage
+abbrev pub IsPostAt : Stage → Post → Type 0
+IsPostAt stages.Standing post = post ≡ Waiting
+IsPostAt stages.AtDoor post = post ≡ Waiting
+IsPostAt (stages.Entering s) post = post ≡ Entering s
+IsPostAt stages.Normal post = post ≡ Running
+IsPostAt stages.Leaving post = post ≡ Leaving
+IsPostAt stages.Armed post = post ≡ Armed
+IsPostAt stages.Woken post = (post ≡ Woken) ⊎ (post ≡ Armed)
+
+pub post_at : (post : Post) (y : Stage) → Fits post y → IsPostAt y post
+post_at post y fits = grind (arith, nat_tests)
+
+-- whether it is on its way into the firmware
+pub enters_at : (post : Post) (y : Stage) → IsPostAt y post → is_entering post ≡ port.is_entering y
+enters_at post y at = grind (arith, nat_tests)
+
+-- one that was started looks at its door, or has to turn there
+pub takes_at : (post : Post) (y : Stage) → IsPostAt y post → is_started y ≡ true
+    → (may_look post ≡ true) ⊎ (post ≡ Woken)
+takes_at post y at is = grind (arith, nat_tests)
 
 -- What a monitor finds ---------------------------------------------------------------------------
 
 -- a look finds a start that its core did not use
 found_new : (s : FirmwareSide) (door : Door) (pending : Bool) → (door.opened == s.used) ≡ false
     → found s door pending ≡ look.Enter
-found_new s door pending new = ap (λ t. cond (not t) look.Enter
-    (cond (pending && (is_suspended s.stop && not (s.told == s.used))) (look.Tell s.used)
-    look.Rest)) new
+found_new s door pending new = grind (arith, nat_tests)
 
 -- a door that is not open for its core's last start is to be served
 to_serve : (t u : Bool) (o : Option Start) (n : ℕ) → t ≡ false → (o ≡ None → ⊥)
@@ -65,9 +88,7 @@ to_serve t false (Some s) n shut some =
 -- a core is lent the firmware exactly where it has begun a call
 pub lent_none : (c : ℕ) (post : Post) (o : Option FwCall) (begun : Option Record)
     → IsLent c post o begun → begun ≡ None → o ≡ None
-lent_none c post None begun lent none = refl
-lent_none c post (Some call) begun lent none =
-    absurd (none-some lent.0 (sym none ∙ lent.1.0))
+lent_none c post o begun lent none = grind (arith, nat_tests)
 
 lent_some : (c : ℕ) (post : Post) (o : Option FwCall) (begun : Option Record) (r : Record)
     → IsLent c post o begun → begun ≡ Some r → (call : FwCall) × (o ≡ Some call)
@@ -139,12 +160,10 @@ module _ (b : BoardValue) (given : Given b) (m : Machine) (acts : List Act)
       holds c due.1.0 due.0.0 due.0.1,
       entering_same c due.1.0 ∙ due.1.1,
     )
-    none_due (Calls c regs said) due = due.1
     none_due (Enters c said) due = still (BeginEntry c due.0.2.0) (
       holds c due.0.0 due.0.1.0 due.0.1.1,
       monitor_at c (stages.Entering due.0.2.0) due.0.0 due.0.2.1,
     )
-    none_due (Takes c k said) due = due.1
     none_due (Finishes c) due = still (EndCall c m.firmware) (
       due.1,
       lent_some c (m.side c).post (m.station c).lent (p.row c).begun due.0.0
@@ -177,11 +196,6 @@ module _ (b : BoardValue) (given : Given b) (m : Machine) (acts : List Act)
       monitor_at c stages.Armed due.1 due.0.0,
       λ e. due.0.1 (sym is.lock ∙ e),
     )
-    none_due (Delivers k x) due = due.1
-    none_due (Wakes c) due = due.1
-    none_due (Resets c) due = due.1
-    none_due (Rouses c) due = due.1
-    none_due (Rises c) due = due.1
     none_due (Turns c) due =
         let lacks : m.lock ≡ Some c → ⊥ = λ e. due.0.1 (sym is.lock ∙ e) in
         elim (monitor_at c stages.Woken due.1 due.0.0) [
@@ -190,9 +204,7 @@ module _ (b : BoardValue) (given : Given b) (m : Machine) (acts : List Act)
         ]
     none_due (Writes c) due = doors_open c due.1.0 due.0
     none_due (Opens c) due = doors_open c due.1.0 due.1.1
-    none_due (Cuts level place) due = due.1
-    none_due Restarts due = due.1
-    none_due Reboots due = due.1
+    none_due act due = due.1
 
     -- At rest ------------------------------------------------------------------------------------
 
@@ -246,9 +258,4 @@ module _ (b : BoardValue) (given : Given b) (m : Machine) (acts : List Act)
         ∙ ap (λ (v : Values). waits b v (words p) (asked.Deliver x)) is.control.values
 
     pub resting : IsAtRest b m
-    resting = record {
-      free = is.lock ∙ rest.free;
-      each = λ c has. still_by c has (rest.each c has);
-      messages = λ x has wait. monitor_at x.core.number stages.Normal has
-          (rest.messages x has (sym (waits_so x has) ∙ wait));
-    }
+    resting = grind (arith, nat_tests, rest, still_by, monitor_at, waits_so)

@@ -1,11 +1,13 @@
 -- Calls of the firmware end.
-use Rattle.std.proofs.Common.{◌<◌, ◌∙◌, ◌∷◌, ◌≡◌, [], ap, Bool, false, inl, inr}
-use Rattle.std.proofs.Common.{length, List, Option, None, Some, refl, subst, sym, ℕ}
+use Rattle.std.proofs.Common.{arith}
+use Rattle.std.proofs.lemmas.Bool.Decides.{nat_tests}
+use Rattle.std.proofs.Common.{◌<◌, ◌∙◌, ◌∷◌, ◌≡◌, [], ap, Bool, false, inl, inr, length, List}
+use Rattle.std.proofs.Common.{None, Option, refl, Some, subst, sym, ℕ}
 use Rattle.std.proofs.lemmas.Option.{none-some}
 use Rattle.psci_abi.specs.Calls.{request_of}
 use Rattle.psci_abi.specs.declared.registers.Regs.{Regs}
 use Rattle.psci_board.specs.Board.{BoardValue, cores}
-use Rattle.psci_fw.specs.Seen.{FirmwareValue}
+use Rattle.psci_fw.specs.Reactions.{FirmwareValue}
 use Rattle.psci_fw_spec.specs.declared.call.FwCall.{FwCall}
 use Rattle.psci_fw_spec.specs.declared.call.FwCall.TheVariants as calls
 use Rattle.psci_fw_spec.specs.declared.outcome.Act.TheVariants as outcomes
@@ -15,13 +17,10 @@ use Rattle.psci_messages.specs.Message.{MessageValue}
 use Rattle.psci_messages.specs.declared.start.Start.{Start}
 use Rattle.psci_world_spec.specs.declared.event.Event.TheVariants as events
 use Rattle.psci_world_spec.specs.declared.said.Record.{Record}
-use Rattle.psci_world_spec.specs.Histories.{sent, sent_in}
-use Rattle.psci_world_spec.specs.Legal.{asked_firmware, said_of}
-use Rattle.psci_port.specs.Port.{Act, Finishes, Port, Row, ended}
-use Rattle.psci_port.specs.Port.{finished, stage_at, state, step}
+use Rattle.psci_world_spec.specs.Legal.{asked_firmware, said_of, sent, sent_in}
+use Rattle.psci_port.specs.Port.{Act, ended, finished, Finishes, Port, Row, stage_at, state, step}
 use Rattle.psci_port.specs.Stages as stages
-use Rattle.psci_port.proofs.Keeping.{IsKept}
-use Rattle.psci_port.proofs.Locks.{Fits as FitsCall}
+use Rattle.psci_port.proofs.Locks.{Fits as FitsCall, IsKept}
 use Rattle.psci_port.proofs.Mirrors.{IsDue, IsMirror}
 use Rattle.psci_port.proofs.Running.{run_kept}
 use Rattle.psci_control.specs.SideOf as control
@@ -30,27 +29,22 @@ use Rattle.psci_enter.specs.declared.side.FirmwareSide.{FirmwareSide}
 use Rattle.psci_enter.specs.Orders.{is_suspending}
 use Rattle.psci_enter.specs.Side.{IsAsked, replied, reply_in}
 use Rattle.psci_enter.specs.SideOf.{Fits, IsFirmwareOf, IsSideOf, core_of}
-use Rattle.psci_enter.proofs.Replying.{called_reply, entered_reply, life_of, one_entry}
+use Rattle.psci_enter.proofs.Keeping.{called_reply, entered_reply, life_of, one_entry}
 use Rattle.psci_enter.proofs.Standing.{row_same}
-use Rattle.psci_sides.specs.Machine.{Machine, answered, orders_by, returned}
-use Rattle.psci_sides.specs.Machine.{side_by, side_of}
+use Rattle.psci_sides.specs.Machine.{answered, Machine, orders_by, returned, side_by, side_of}
 use Rattle.psci_sides.specs.Steps.{EndCall, May, after}
 use Rattle.psci_sides.specs.Seen.{IsCoreOf, IsEventOf, IsLent, IsMachineOf}
-use Rattle.psci_sides.proofs.Around.{in_listed, its_side, made_still, one_core, sent_new}
-use Rattle.psci_sides.proofs.Around.{sent_still}
-use Rattle.psci_sides.proofs.Given.{Follows, Given, IsSeen, one_act}
+use Rattle.psci_sides.proofs.Commanding.{in_listed, its_side, made_still, one_core, sent_new}
+use Rattle.psci_sides.proofs.Commanding.{sent_still}
+use Rattle.psci_sides.proofs.Carrying.{Follows, Given, IsSeen, one_act}
 
 -- What a reply leaves of a side ------------------------------------------------------------------
 
 replied_core : (t : Bool) (r : FwReply) (s : FirmwareSide) → core_of (replied t r s) ≡ core_of s
-replied_core t (replies.Out o) s = refl
-replied_core t (replies.Taken x) s = refl
-replied_core t (replies.Fault f) s = refl
+replied_core t r s = grind (arith, nat_tests)
 
 replied_used : (t : Bool) (r : FwReply) (s : FirmwareSide) → (replied t r s).used ≡ s.used
-replied_used t (replies.Out o) s = refl
-replied_used t (replies.Taken x) s = refl
-replied_used t (replies.Fault f) s = refl
+replied_used t r s = grind (arith, nat_tests)
 
 -- what it has sent is what was said that it sent
 sent_message : (n : ℕ) (o : Option MessageValue) (x : MessageValue) → o ≡ Some x
@@ -60,15 +54,11 @@ sent_message n (Some y) x e = e
 
 called_sends : (s : FirmwareSide) (regs : Regs) (n : ℕ) (r : FwReply) (x : MessageValue)
     → (orders_by s (calls.Smc regs) r).send ≡ Some x → sent_in (said_of n r) ≡ Some x
-called_sends s regs n (replies.Out o) x e = sent_message n o.message x e
-called_sends s regs n (replies.Taken t) x e = absurd (none-some x e)
-called_sends s regs n (replies.Fault f) x e = absurd (none-some x e)
+called_sends s regs n r x e = grind (arith, nat_tests, sent_message)
 
 entered_sends : (s : FirmwareSide) (start : Start) (n : ℕ) (r : FwReply) (x : MessageValue)
     → (orders_by s (calls.Enter start) r).send ≡ Some x → sent_in (said_of n r) ≡ Some x
-entered_sends s start n (replies.Out o) x e = sent_message n o.message x e
-entered_sends s start n (replies.Taken t) x e = absurd (none-some x e)
-entered_sends s start n (replies.Fault f) x e = absurd (none-some x e)
+entered_sends s start n r x e = grind (arith, nat_tests, sent_message)
 
 module _ (b : BoardValue) (given : Given b) (m : Machine) (acts : List Act)
     (seen : IsSeen b m acts) where

@@ -1,25 +1,23 @@
 -- A core tells its own wake-up, with the lock in hand.
-use Rattle.std.proofs.Common.{◌<◌, ◌==◌, ◌∙◌, ◌∷◌, ◌++◌, ◌≡◌, ap, Bool, cond, false}
-use Rattle.std.proofs.Common.{List, Option, None, Some, refl, subst, sym, true, ℕ}
-use Rattle.std.proofs.lemmas.Bool.{false≢true}
-use Rattle.std.proofs.lemmas.Option.{none-some}
+use Rattle.std.proofs.Common.{arith}
+use Rattle.std.proofs.lemmas.Bool.Decides.{nat_tests}
+use Rattle.std.proofs.Common.{◌++◌, ◌<◌, ◌∙◌, ◌∷◌, ◌≡◌, ap, Bool, false, List, None, Option, refl}
+use Rattle.std.proofs.Common.{subst, sym, true, ℕ}
 use Rattle.psci_board.specs.Board.{BoardValue, cores}
 use Rattle.psci_messages.specs.Message.{AckValue}
 use Rattle.psci_ctl_spec.specs.declared.call.CtlCall.{CtlCall}
 use Rattle.psci_ctl_spec.specs.declared.call.CtlCall.TheVariants as asked
-use Rattle.psci_ctl_spec.specs.Effects.{Effect, Nothing, Starts, Deepens, Ends, Begins, effect_of}
-use Rattle.psci_ctl_spec.specs.Replies.{reply}
-use Rattle.psci_fw.specs.Seen.{FirmwareValue}
+use Rattle.psci_ctl_spec.specs.Replies.{Effect, effect_of, reply}
+use Rattle.psci_fw.specs.Reactions.{FirmwareValue}
 use Rattle.psci_fw_spec.specs.declared.call.FwCall.{FwCall}
 use Rattle.psci_world_spec.specs.declared.said.Record.{Record}
-use Rattle.psci_port.specs.Port.{Act, Port, Rises, Row, lock_by, row_by}
-use Rattle.psci_port.specs.Port.{stage_at, started, state, step, woken, words}
+use Rattle.psci_port.specs.Port.{Act, lock_by, Port, Rises, Row, row_by, stage_at, state, step}
+use Rattle.psci_port.specs.Port.{woken, words}
 use Rattle.psci_port.specs.Rules as rules
 use Rattle.psci_port.specs.Stages as stages
-use Rattle.psci_port.proofs.Keeping.{IsKept}
-use Rattle.psci_port.proofs.Locks.{first_begun}
+use Rattle.psci_port.proofs.Locks.{first_begun, IsKept}
 use Rattle.psci_port.proofs.Running.{run_kept}
-use Rattle.psci_control.specs.ControlSide.{ControlValue, orders_in, reply_in, values_of, waits_in}
+use Rattle.psci_control.specs.ControlSide.{ControlValue, orders_in, reply_in, waits_in}
 use Rattle.psci_control.proofs.Commanded.{rises_side}
 use Rattle.psci_enter.specs.declared.post.Post.{Post}
 use Rattle.psci_enter.specs.declared.post.Post.TheVariants.{Armed}
@@ -31,10 +29,9 @@ use Rattle.psci_enter.proofs.Standing.{rises}
 use Rattle.psci_sides.specs.Machine.{Machine, commanded, side_of}
 use Rattle.psci_sides.specs.Steps.{Asks, May, RiseCore, after, risen, wake_of}
 use Rattle.psci_sides.specs.Seen.{IsCoreOf, IsLent, IsMachineOf, rise_acts}
-use Rattle.psci_sides.proofs.Around.{its_side, same_core}
+use Rattle.psci_sides.proofs.Commanding.{its_side, same_core}
 use Rattle.psci_sides.proofs.Arming.{armed_stands}
-use Rattle.psci_sides.proofs.Carrying.{done}
-use Rattle.psci_sides.proofs.Given.{Follows, Given, IsSeen, one_act}
+use Rattle.psci_sides.proofs.Carrying.{done, Follows, Given, IsSeen, one_act}
 use Rattle.psci_sides.proofs.Locking.{has_lock, stays_at}
 use Rattle.psci_sides.proofs.Waking.{carried_wake, last_word, same_wake, woken_machine}
 
@@ -42,38 +39,20 @@ use Rattle.psci_sides.proofs.Waking.{carried_wake, last_word, same_wake, woken_m
 
 -- no life ends by it: the lock and the firmware stay
 lock_stays : (g : Effect) (l : Option ℕ) → is_end g ≡ false → lock_by g l ≡ l
-lock_stays Nothing l goes = refl
-lock_stays (Starts c cause) l goes = refl
-lock_stays (Deepens c ps) l goes = refl
-lock_stays Ends l goes = absurd (false≢true (sym goes))
-lock_stays Begins l goes = absurd (false≢true (sym goes))
+lock_stays g l goes = grind (arith, nat_tests)
 
 firmware_stays : (b : BoardValue) (f : FirmwareValue) (g : Effect) (a : Option AckValue)
     (m : Machine) → is_end g ≡ false → (done b f g a m).firmware ≡ m.firmware
-firmware_stays b f Nothing a m goes = refl
-firmware_stays b f (Starts c cause) a m goes = refl
-firmware_stays b f (Deepens c ps) a m goes = refl
-firmware_stays b f Ends a m goes = absurd (false≢true (sym goes))
-firmware_stays b f Begins a m goes = absurd (false≢true (sym goes))
+firmware_stays b f g a m goes = grind (arith, nat_tests)
 
 -- a core that had begun no call has begun none
 begun_none : (c : ℕ) (g : Effect) (r : Row) → r.begun ≡ None → (row_by c g r).begun ≡ None
-begun_none c Nothing r none = none
-begun_none c (Starts d cause) r none = by (c == d)
-  where
-    by : (t : Bool) → (cond t (started cause r) r).begun ≡ None
-    by true = refl
-    by false = none
-begun_none c (Deepens d ps) r none = none
-begun_none c Ends r none = refl
-begun_none c Begins r none = first_begun c
+begun_none c g r none = grind (arith, nat_tests, first_begun)
 
 -- and was lent nothing, wherever its monitor is
 lent_nothing : (c : ℕ) (post other : Post) (o : Option FwCall) (begun : Option Record)
     → begun ≡ None → IsLent c post o begun → IsLent c other o begun
-lent_nothing c post other None begun none lent = lent
-lent_nothing c post other (Some call) begun none lent =
-    absurd (none-some lent.0 (sym none ∙ lent.1.0))
+lent_nothing c post other o begun none lent = grind (arith, nat_tests)
 
 module _ (b : BoardValue) (given : Given b) (m : Machine) (acts : List Act)
     (seen : IsSeen b m acts) where
@@ -109,10 +88,7 @@ module _ (b : BoardValue) (given : Given b) (m : Machine) (acts : List Act)
 
     -- the side hears what the power controller answers
     same_answer : is_started (reply_in m.control (wake_of m c)) ≡ is_started (reply b p.values wake)
-    same_answer =
-        ap (λ x. is_started (reply x (values_of m.control) (wake_of m c))) is.control.board
-        ∙ ap (λ v. is_started (reply b v (wake_of m c))) is.control.values
-        ∙ ap (λ x. is_started (reply b p.values x)) (same_wake b given m acts seen c has t asks)
+    same_answer = grind (arith, nat_tests, same_wake)
 
     rises_so : rules.May b p (Rises c)
         × IsSideOf b (at (heard (is_started (reply b p.values wake))) (side_of m c))
@@ -128,19 +104,7 @@ module _ (b : BoardValue) (given : Given b) (m : Machine) (acts : List Act)
     risen_core : IsCoreOf c
         (at (heard (is_started (reply_in m.control (wake_of m c)))) (side_of left c))
         (left.station c) ((woken b p c).row c)
-    risen_core =
-        let was = tied.each c has in record {
-          used = was.used;
-          post = risen_fits;
-          opened = was.opened;
-          start = was.start;
-          word = was.word;
-          held = was.held;
-          lent = lent_nothing c (left.side c).post
-              (heard (is_started (reply_in m.control (wake_of m c)))) (left.station c).lent
-              ((woken b p c).row c).begun
-              (begun_none c (effect_of b wake (reply b p.values wake)) (p.row c) holds.1) was.lent;
-        }
+    risen_core = grind (arith, nat_tests, tied, risen_fits, lent_nothing, begun_none)
 
     risen_machine : IsMachineOf b (risen false b c t m) (step b p (Rises c))
     unfolding step
@@ -174,6 +138,4 @@ module _ (b : BoardValue) (given : Given b) (m : Machine) (acts : List Act)
   pub rises_there : (c : ℕ) (t : ControlValue) → May b m (RiseCore c t)
       → Follows b m acts (RiseCore c t)
   unfolding after
-  rises_there c t may =
-      let waits : Bool = waits_in m.control (wake_of m c) in
-      (rise_acts waits c, refl, rises_by c t waits refl may)
+  rises_there c t may = grind (arith, nat_tests, rises_by)

@@ -1,45 +1,38 @@
 -- What the power controller hears and keeps back, its doors, and what comes from outside.
-use Rattle.std.proofs.Common.{◌<◌, ◌==◌, ◌∙◌, ◌∷◌, ◌++◌, ◌≡◌, ◌≤◌, [], ap, arith, cond, false}
-use Rattle.std.proofs.Common.{inl, inr, List, Option, Some, refl, subst, sym, true, ℕ}
+use Rattle.std.proofs.lemmas.Bool.Decides.{nat_tests}
+use Rattle.std.proofs.Common.{◌++◌, ◌<◌, ◌==◌, ◌∙◌, ◌∷◌, ◌≡◌, ◌≤◌, [], ap, arith, cond, false}
+use Rattle.std.proofs.Common.{inl, inr, List, Option, refl, Some, subst, sym, true, ℕ}
 use Rattle.std.specs.Prelude.{◌&&◌}
 use Rattle.psci_board.specs.Board.{BoardValue, cores}
-use Rattle.psci_ctl_spec.specs.Legal.{IsOfBoard}
+use Rattle.psci_ctl_spec.specs.History.{IsOfBoard}
 use Rattle.psci_ctl_spec.specs.Replies.{last_start}
 use Rattle.psci_messages.specs.Message.{AckValue, MessageValue}
-use Rattle.psci_port.specs.Port.{Act, Cuts, Opens, Port, Row, Writes}
-use Rattle.psci_port.specs.Port.{state, step}
+use Rattle.psci_port.specs.Port.{Act, Cuts, Opens, Port, Row, state, step, Writes}
 use Rattle.psci_port.specs.Stages as stages
-use Rattle.psci_port.specs.Stages.{Stage, is_armed, may_hold}
-use Rattle.psci_port.proofs.Keeping.{IsKept}
+use Rattle.psci_port.specs.Stages.{Stage, is_armed}
+use Rattle.psci_port.proofs.Locks.{IsKept}
 use Rattle.psci_port.proofs.Running.{run_kept}
 use Rattle.psci_control.specs.declared.door.DoorOrder.{DoorOrder}
 use Rattle.psci_control.specs.declared.door.DoorOrder.TheVariants as orders
 use Rattle.psci_control.specs.declared.gate.Gate.{Gate}
-use Rattle.psci_control.specs.ControlSide.{IsControlSide, IsWaiting, board_of}
-use Rattle.psci_control.specs.ControlSide.{gate_in, holding, ordered, telling}
-use Rattle.psci_control.specs.ControlSide.{with_gate}
+use Rattle.psci_control.specs.ControlSide.{board_of, gate_in, holding, IsControlSide, IsWaiting}
+use Rattle.psci_control.specs.ControlSide.{ordered, telling, with_gate}
 use Rattle.psci_control.proofs.Apart.{apart_side}
-use Rattle.psci_control.proofs.Gates.{writes}
-use Rattle.psci_control.proofs.Sides.{hears_side, opens_side, writes_side}
-use Rattle.psci_enter.specs.Again.{outstanding_in}
+use Rattle.psci_control.proofs.Asked.{writes}
+use Rattle.psci_control.proofs.Commanded.{hears_side, opens_side, writes_side}
 use Rattle.psci_enter.proofs.Keeping.{quiet_firmware}
 use Rattle.psci_enter.proofs.Standing.{row_same}
 use Rattle.psci_sides.specs.Machine.{Machine, door_by, with_core}
-use Rattle.psci_sides.specs.Steps.{Hear, KeepBack}
-use Rattle.psci_sides.specs.Steps.{ServeDoor, CutPower, Carry, SendAgain, May, after, due_at}
+use Rattle.psci_sides.specs.Steps.{after, Carry, CutPower, due_at, Hear, KeepBack, May}
+use Rattle.psci_sides.specs.Steps.{SendAgain, ServeDoor}
 use Rattle.psci_sides.specs.Seen.{IsMachineOf, WasSent, door_acts}
-use Rattle.psci_sides.proofs.Around.{armed_post, gate_waits, in_listed, inside, one_core}
-use Rattle.psci_sides.proofs.Around.{there, waits_side}
-use Rattle.psci_sides.proofs.Given.{Follows, Given, IsSeen, no_act, one_act}
+use Rattle.psci_sides.proofs.Commanding.{armed_post, gate_waits, inside, one_core, there}
+use Rattle.psci_sides.proofs.Commanding.{waits_side}
+use Rattle.psci_sides.proofs.Carrying.{Follows, Given, IsSeen, no_act, one_act}
 
 none_armed : (y : Stage) → (is_armed y ≡ true → ⊥) → is_armed y ≡ false
-none_armed stages.Standing not = refl
-none_armed stages.AtDoor not = refl
-none_armed (stages.Entering s) not = refl
-none_armed stages.Normal not = refl
-none_armed stages.Leaving not = refl
 none_armed stages.Armed not = absurd (not refl)
-none_armed stages.Woken not = refl
+none_armed y not = refl
 
 module _ (b : BoardValue) (given : Given b) (m : Machine) (acts : List Act)
     (seen : IsSeen b m acts) where
@@ -200,12 +193,7 @@ module _ (b : BoardValue) (given : Given b) (m : Machine) (acts : List Act)
 
   pub serves_door : (c : ℕ) → May b m (ServeDoor c) → Follows b m acts (ServeDoor c)
   unfolding after
-  serves_door c may = (
-    door_acts c (due_at m c),
-    refl,
-    subst (λ o. IsSeen b (served c o) (door_acts c o ++ acts)) (sym may.1.1)
-        (served_by c may.1.0 may.0 may.1.1),
-  )
+  serves_door c may = grind (arith, nat_tests, served_by)
 
   -- From outside ---------------------------------------------------------------------------------
 
@@ -236,44 +224,9 @@ module _ (b : BoardValue) (given : Given b) (m : Machine) (acts : List Act)
   pub carries : (mail : List MessageValue) (made : List AckValue) → May b m (Carry mail made)
       → Follows b m acts (Carry mail made)
   unfolding after
-  carries mail made may = (
-    [],
-    refl,
-    no_act b m _ acts seen (record {
-      each = is.each;
-      firmware = is.firmware;
-      control = is.control;
-      gates = is.gates;
-      lock = is.lock;
-      mail = record {
-        messages = λ x at. is.mail.messages x (may.0 x at);
-        kept = is.mail.kept;
-        acks = λ a at. is.mail.acks a (may.1 a at);
-      };
-      power = is.power;
-    }),
-  )
+  carries mail made may = grind (arith, nat_tests)
 
   pub sends_again : (c number : ℕ) → May b m (SendAgain c number)
       → Follows b m acts (SendAgain c number)
   unfolding after
-  sends_again c number may = (
-    [],
-    refl,
-    no_act b m _ acts seen (record {
-      each = is.each;
-      firmware = is.firmware;
-      control = is.control;
-      gates = is.gates;
-      lock = is.lock;
-      mail = record {
-        messages = λ x at. elim (in_listed (outstanding_in m.firmware number) m.mail x at) [
-          | inl e ↦ given.again acts m.firmware number x seen.run seen.so is.firmware e
-          | inr old ↦ is.mail.messages x old
-        ];
-        kept = is.mail.kept;
-        acks = is.mail.acks;
-      };
-      power = is.power;
-    }),
-  )
+  sends_again c number may = grind (arith, nat_tests)

@@ -4,22 +4,21 @@ use Rattle.std.proofs.Common.{◌≡◌, ◌<◌, ap, arith, inl, inr, refl, sym
 use Rattle.std.proofs.lemmas.Bool.{eqb-false, false≢true}
 use Rattle.std.proofs.lemmas.Option.{none-some}
 use Rattle.psci_board.specs.Board.{BoardValue, cores}
-use Rattle.psci_ctl_spec.specs.Changes as changing
+use Rattle.psci_ctl_spec.specs.Replies as changing
 use Rattle.psci_ctl_spec.specs.Replies.{reply}
 use Rattle.psci_messages.specs.Message.{MessageValue}
 use Rattle.psci_messages.specs.declared.kind.Kind.TheVariants.{Off}
 use Rattle.psci_world_spec.proofs.Scripts.{board, tall}
 use Rattle.psci_control.specs.ControlSide.{values_of}
-use Rattle.psci_port.proofs.Cases.{Each, EachGoing, down_of, of_system, sendable, standby, whole}
-use Rattle.psci_port.proofs.Cases.{whole_tall}
+use Rattle.psci_port.proofs.Playing.{down_of, Each, EachGoing, of_system, sendable, standby}
+use Rattle.psci_port.proofs.Playing.{whole, whole_tall}
 use Rattle.psci_port.specs.Served.{IsSpent}
 use Rattle.psci_enter.specs.declared.post.Post.TheVariants.{Waiting}
 use Rattle.psci_sides.specs.Frames.{IsLost, IsOut, IsServed, IsWanted, Serves, is_end_of}
 use Rattle.psci_sides.specs.Steps.{DeliverKept, DeliverMail, Hear, SendAgain, TakeAck, TakeLock}
 use Rattle.psci_sides.proofs.Framed.{agree, at_post, end_of, ended, framed, framed_and_ended}
-use Rattle.psci_sides.proofs.Framed.{holding}
-use Rattle.psci_sides.proofs.Framed.{is_lost, is_wanted, kept, lifeless, lost, none_out, nothing_in}
-use Rattle.psci_sides.proofs.Framed.{sent_once, slot_number, taken, unheard}
+use Rattle.psci_sides.proofs.Framed.{holding, is_lost, is_wanted, kept, lifeless, lost, none_out}
+use Rattle.psci_sides.proofs.Framed.{nothing_in, sent_once, slot_number, taken, unheard}
 use Rattle.psci_sides.proofs.Pair.{anew, code, playing}
 
 -- A frame is of use ------------------------------------------------------------------------------

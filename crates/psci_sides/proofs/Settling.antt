@@ -1,33 +1,67 @@
 -- A machine that takes its own steps alone takes few.
-use Rattle.std.proofs.Common.{◌+◌, ◌*◌, ◌<◌, ◌==◌, ◌∙◌, ◌∷◌, ◌++◌, ◌≡◌, ◌≤◌, [], ap, arith, Bool}
-use Rattle.std.proofs.Common.{false, length, List, Some, refl, subst, sym}
-use Rattle.std.proofs.Common.{true, ℕ}
+use Rattle.std.proofs.lemmas.Bool.Decides.{nat_tests}
+use Rattle.std.proofs.Common.{◌*◌, ◌++◌, ◌+◌, ◌<◌, ◌∷◌, ◌≤◌, [], arith, Bool, cond, false, length}
+use Rattle.std.proofs.Common.{List, None, Option, Some, suc, true, zero, ℕ}
 use Rattle.psci_board.specs.Board.{BoardValue, cores}
+use Rattle.psci_messages.specs.declared.start.Start.{Start}
 use Rattle.psci_ctl_spec.specs.Replies.{last_start}
-use Rattle.psci_ctl_spec.specs.Values.{Values}
-use Rattle.psci_fw.specs.Seen.{FirmwareValue}
-use Rattle.psci_port.specs.Port.{Act, Arms, Enters, Finishes, Locks, Opens, Port, Stands}
-use Rattle.psci_port.specs.Port.{TakesUp, Turns, Unlocks, Writes, stage_at, state}
+use Rattle.psci_world_spec.specs.declared.event.Event.{Event}
+use Rattle.psci_world_spec.specs.declared.event.Event.TheVariants as events
+use Rattle.psci_world_spec.specs.declared.said.Record.{Record}
+use Rattle.psci_port.specs.Port.{Act, Port, Row, state}
 use Rattle.psci_port.specs.Resting as port
-use Rattle.psci_port.specs.Resting.{is_shown, left, total}
-use Rattle.psci_port.proofs.Keeping.{IsKept}
+use Rattle.psci_port.specs.Resting.{call_left, core_left, has_lock, left, own_left, row_left}
+use Rattle.psci_port.specs.Resting.{stage_left, total}
+use Rattle.psci_port.specs.Stages.{Stage}
+use Rattle.psci_port.proofs.Locks.{IsKept}
 use Rattle.psci_port.proofs.Running.{run_kept}
-use Rattle.psci_control.specs.declared.door.DoorOrder.{DoorOrder}
-use Rattle.psci_control.specs.declared.door.DoorOrder.TheVariants as orders
-use Rattle.psci_control.specs.ControlSide.{ControlValue, gate_in, values_of}
-use Rattle.psci_sides.specs.Machine.{Machine, cold, has_stood}
-use Rattle.psci_sides.specs.Resting.{EachGoes, Goes, is_entering}
-use Rattle.psci_sides.specs.Seen.{IsMachineOf, door_acts, look_acts, sleep_act}
-use Rattle.psci_sides.specs.Steps.{BeginCall, BeginEntry, Carry, CutPower, DeliverKept, DeliverMail}
-use Rattle.psci_sides.specs.Steps.{EndCall, GiveLock, Hear, KeepBack, LookAtDoor, May, RebootAll}
-use Rattle.psci_sides.specs.Steps.{ResetCore, RestartAll, SendAgain, ServeDoor, Stand, Step}
-use Rattle.psci_sides.specs.Steps.{TakeAck, TakeLock, WakeUp, ArmCore, SleepCore, RouseCore}
-use Rattle.psci_sides.specs.Steps.{RiseCore, TurnCore, IsCold, IsRun, due_at}
-use Rattle.psci_sides.specs.Steps.{machine}
-use Rattle.psci_sides.proofs.Given.{Follows, Given, IsSeen}
-use Rattle.psci_sides.proofs.Posts.{enters_at, post_at}
-use Rattle.psci_sides.proofs.Running.{follows, run_seen}
-use Rattle.psci_sides.proofs.Weighing.{all_few, open_due, total_bound, write_due}
+use Rattle.psci_fw.specs.Reactions.{FirmwareValue}
+use Rattle.psci_control.specs.ControlSide.{ControlValue}
+use Rattle.psci_sides.specs.Machine.{cold, Machine}
+use Rattle.psci_sides.specs.Resting.{EachGoes, Goes}
+use Rattle.psci_sides.specs.Seen.{IsMachineOf}
+use Rattle.psci_sides.specs.Steps.{IsCold, IsRun, machine, May, Step}
+use Rattle.psci_sides.proofs.Carrying.{Follows, Given, IsSeen}
+use Rattle.psci_sides.proofs.Restarting.{follows, run_seen}
+
+-- Sums -------------------------------------------------------------------------------------------
+
+pub total_bound : (f : ℕ → ℕ) (n : ℕ) → ((x : ℕ) → f x ≤ 21) → total f n ≤ 21 * n
+unfolding total
+total_bound f zero low = omega arith
+total_bound f (suc n) low =
+    let own = low n in
+    let rest = total_bound f n low in
+    omega (arith, own, rest)
+
+-- What is left of one core -----------------------------------------------------------------------
+
+bit_few : (t : Bool) → cond t 0 1 ≤ 1
+bit_few true = omega arith
+bit_few false = omega arith
+
+start_few : (t : Bool) → cond t 0 10 ≤ 10
+start_few true = omega arith
+start_few false = omega arith
+
+own_few : (has : Bool) (y : Stage) → own_left has y ≤ 8
+own_few has y = grind (arith, nat_tests)
+
+call_few : (event : Event) (own : ℕ) → own ≤ 8 → call_left event own ≤ 9
+call_few (events.Take k) own low = omega (arith, low)
+call_few event own low = omega arith
+
+stage_few : (has : Bool) (o : Option Record) (y : Stage) → stage_left has o y ≤ 9
+stage_few has None y = let low = own_few has y in omega (arith, low)
+stage_few has (Some r) y = call_few r.event (own_left has y) (own_few has y)
+
+row_few : (has : Bool) (s : ℕ) (l : Option Start) (r : Row) → row_left has s l r ≤ 21
+row_few has s l r = grind (arith, nat_tests, bit_few, start_few, stage_few)
+
+pub all_few : (p : Port) (c : ℕ) → core_left p c ≤ 21
+all_few p c = row_few (has_lock p.lock c) (p.values.starts c) (last_start p.values c) (p.row c)
+
+-- Settling ----------------------------------------------------------------------------------------
 
 -- all that is left
 abbrev pub weight : BoardValue → List Act → ℕ
@@ -44,93 +78,11 @@ module _ (b : BoardValue) (given : Given b) (m : Machine) (acts : List Act)
   abbrev kept : IsKept p
   kept = run_kept b acts seen.run
 
-  entering_same : (c : ℕ) → c < cores b
-      → port.is_entering (stage_at p c) ≡ is_entering (m.side c).post
-  entering_same c has = sym (enters_at (m.side c).post (stage_at p c)
-      (post_at (m.side c).post (stage_at p c) (is.each c has).post))
-
-  -- a step that is one act of the port
-  by_act : (n : Machine) (new : List Act) (act : Act) → new ≡ act ∷ [] → port.Goes b p act
-      → IsSeen b n (new ++ acts) → weight b (new ++ acts) < weight b acts
-  by_act n new act e goes next =
-      subst (λ l. weight b (l ++ acts) < weight b acts) (sym e)
-      (one (subst (λ l. IsSeen b n (l ++ acts)) e next))
-    where
-      one : IsSeen b n (act ∷ acts) → weight b (act ∷ acts) < weight b acts
-      one next = given.lowers acts act seen.run seen.so (next.run.0, goes)
-
   -- Each of its own steps ------------------------------------------------------------------------
-
-  sleeps_goes : (c : ℕ) (t : Bool) → c < cores b → port.Goes b p (sleep_act t c)
-  sleeps_goes c true has = has
-  sleeps_goes c false has = has
-
-  -- a door is served
-  door_goes : (c : ℕ) (order : DoorOrder) → c < cores b → due_at m c ≡ Some order
-      → (act : Act) × ((door_acts c (Some order) ≡ act ∷ []) × port.Goes b p act)
-  door_goes c (orders.Write start) has due = (
-    Writes c,
-    (
-      refl,
-      (
-        has,
-        sym (ap (λ o. is_shown o (last_start p.values c)) (is.control.written c has))
-            ∙ ap (λ (v : Values). is_shown (gate_in m.control.gates c).written (last_start v c))
-            (sym is.control.values) ∙ (write_due _ _ (last_start (values_of m.control) c) _ start
-            due).1,
-      ),
-    ),
-  )
-  door_goes c (orders.Open number) has due = (
-    Opens c,
-    (
-      refl,
-      (
-        has,
-        sym (ap (λ n. n == p.values.starts c) (is.control.opened c has))
-            ∙ ap (λ (v : Values). (gate_in m.control.gates c).opened == v.starts c)
-            (sym is.control.values) ∙ open_due _ _ (orders.Open number) due,
-      ),
-    ),
-  )
 
   pub own_less : (x : Step) → May b m x → Goes b m x → (next : Follows b m acts x)
       → weight b (next.0 ++ acts) < weight b acts
-  own_less (TakeLock c) may goes next =
-      by_act _ next.0 (Locks c) next.1 (entering_same c goes.0 ∙ goes.2) next.2
-  own_less (GiveLock c) may goes next =
-      by_act _ next.0 (Unlocks c) next.1 (goes.0.0, entering_same c goes.0.0 ∙ goes.1) next.2
-  own_less (BeginEntry c start) may goes next =
-      by_act _ next.0 (Enters c next.1.0) next.1.1 tt next.2
-  own_less (EndCall c g) may goes next =
-      by_act _ next.0 (Finishes c) next.1 goes.0 next.2
-  own_less (LookAtDoor c pending) may goes next =
-      by_act _ next.0 (TakesUp c) (next.1 ∙ ap (look_acts c) goes.3) goes.0 next.2
-  own_less (Stand c) may goes next =
-      by_act _ next.0 (Stands c) next.1 goes.0 next.2
-  own_less (ServeDoor c) may goes next =
-      let door = door_goes c goes.1.0 goes.0 goes.1.1 in
-      by_act _ next.0 door.0 (next.1 ∙ ap (door_acts c) goes.1.1 ∙ door.1.0) door.1.1 next.2
-  own_less (ArmCore c) may goes next = by_act _ next.0 (Arms c) next.1 goes.0 next.2
-  own_less (SleepCore c) may goes next =
-      by_act _ next.0 (sleep_act (has_stood m c) c) next.1 (sleeps_goes c (has_stood m c) goes.0)
-      next.2
-  own_less (TurnCore c) may goes next = by_act _ next.0 (Turns c) next.1 goes.0 next.2
-  own_less (BeginCall c regs) may goes next = absurd goes
-  own_less (TakeAck c ack g) may goes next = absurd goes
-  own_less (SendAgain c number) may goes next = absurd goes
-  own_less (Hear c) may goes next = absurd goes
-  own_less (DeliverMail x t f) may goes next = absurd goes
-  own_less (KeepBack x) may goes next = absurd goes
-  own_less (DeliverKept c x t f) may goes next = absurd goes
-  own_less (WakeUp c t) may goes next = absurd goes
-  own_less (ResetCore c t) may goes next = absurd goes
-  own_less (CutPower level place) may goes next = absurd goes
-  own_less (Carry mail made) may goes next = absurd goes
-  own_less (RestartAll f s) may goes next = absurd goes
-  own_less (RebootAll f t) may goes next = absurd goes
-  own_less (RouseCore c) may goes next = absurd goes
-  own_less (RiseCore c t) may goes next = absurd goes
+  own_less x may goes next = grind (arith, nat_tests)
 
 -- Each run of them -------------------------------------------------------------------------------
 

@@ -1,108 +1,60 @@
 -- What holds of a machine that is seen by a true run of a port.
-use Rattle.std.proofs.Common.{◌<◌, ◌==◌, ◌∙◌, ◌≡◌, ◌⊎◌, ap, arith, Bool, cond, false}
-use Rattle.std.proofs.Common.{inl, inr, List, Option, None, Some, refl, subst, sym, true, ℕ}
+use Rattle.std.proofs.lemmas.Bool.Decides.{nat_tests}
+use Rattle.std.proofs.Common.{◌<◌, ◌∙◌, ◌≡◌, ◌⊎◌, ap, arith, Bool, false, inl, inr, List, None}
+use Rattle.std.proofs.Common.{Option, refl, subst, sym, true, ℕ}
 use Rattle.std.specs.Prelude.{not, ◌&&◌}
-use Rattle.std.proofs.lemmas.Bool.{eq-eqb, eqb-true, false≢true}
-use Rattle.std.proofs.lemmas.Option.{none-some}
+use Rattle.std.proofs.lemmas.Bool.{eq-eqb, false≢true}
 use Rattle.psci_board.specs.Board.{BoardValue, cores, up}
-use Rattle.psci_ctl_spec.specs.Replies.{last_start}
+use Rattle.psci_ctl_spec.specs.Replies.{last_start, start_shown}
 use Rattle.psci_ctl_spec.specs.Values.{Values}
 use Rattle.psci_messages.specs.declared.start.Cause.{Cause}
-use Rattle.psci_messages.specs.declared.start.Start.{Start}
-use Rattle.psci_ctl_spec.specs.Replies.{start_shown}
 use Rattle.psci_port.specs.Port.{Act, Port, stage_at, state, words}
 use Rattle.psci_port.specs.Stages as stages
-use Rattle.psci_port.specs.Stages.{Stage, executes as runs, has_stopped, is_started, looks}
-use Rattle.psci_port.proofs.Keeping.{IsKept, looks_apart}
+use Rattle.psci_port.specs.Stages.{Stage, executes as runs, has_stopped, is_started}
+use Rattle.psci_port.proofs.Locks.{IsKept, looks_apart}
 use Rattle.psci_port.proofs.Rows.{IsRow}
 use Rattle.psci_port.proofs.Running.{run_kept}
 use Rattle.psci_control.specs.declared.gate.Gate.{Gate}
 use Rattle.psci_control.specs.ControlSide.{gate_in, telling, waits_in}
 use Rattle.psci_enter.specs.SideOf.{Fits}
 use Rattle.psci_enter.specs.declared.post.Post.{Post}
-use Rattle.psci_enter.specs.declared.post.Post.TheVariants.{Waiting, Entering, Running, Leaving}
-use Rattle.psci_enter.specs.declared.post.Post.TheVariants.{Armed, Woken}
+use Rattle.psci_enter.specs.declared.post.Post.TheVariants.{Waiting}
 use Rattle.psci_enter.specs.Side.{may_look}
 use Rattle.psci_enter.proofs.Standing.{takes_up}
 use Rattle.psci_sides.specs.Machine.{Machine, has_stood, side_of, starts_in}
-use Rattle.psci_sides.specs.Steps.{BeginCall, BeginEntry, Carry, CutPower, DeliverKept, DeliverMail}
-use Rattle.psci_sides.specs.Steps.{EndCall, GiveLock, Hear, KeepBack, LookAtDoor, May, RebootAll}
-use Rattle.psci_sides.specs.Steps.{ResetCore, RestartAll, SendAgain, ServeDoor, Stand, Step}
-use Rattle.psci_sides.specs.Steps.{TakeAck}
-use Rattle.psci_sides.specs.Steps.{TakeLock, WakeUp, ArmCore, SleepCore, RouseCore, RiseCore}
-use Rattle.psci_sides.specs.Steps.{TurnCore, may_hold, wake_of}
+use Rattle.psci_sides.specs.Steps.{BeginEntry, LookAtDoor, May, may_hold, Step, wake_of}
 use Rattle.psci_sides.specs.Seen.{IsLent, IsMachineOf}
-use Rattle.psci_sides.specs.Kept.{IsLocked, IsSound, NoneCut, NoneLost, TakesItsLast, executes}
-use Rattle.psci_sides.specs.Kept.{hearing, is_waiting}
-use Rattle.psci_sides.proofs.Around.{its_side, stopped_stood, there}
-use Rattle.psci_sides.proofs.Given.{Given, IsSeen}
+use Rattle.psci_sides.specs.Kept.{executes, hearing, is_waiting, IsLocked, IsSound, NoneCut}
+use Rattle.psci_sides.specs.Kept.{NoneLost, TakesItsLast}
+use Rattle.psci_sides.proofs.Commanding.{its_side, stopped_stood, there}
+use Rattle.psci_sides.proofs.Carrying.{Given, IsSeen}
 
 -- Where a core is --------------------------------------------------------------------------------
 
 -- one that stands waits
 standing_waits : (post : Post) → Fits post stages.Standing → is_waiting post ≡ true
-standing_waits Waiting fits = refl
-standing_waits (Entering s) fits = absurd (false≢true (ap looks (sym fits)))
-standing_waits Running fits = absurd (false≢true (ap looks (sym fits)))
-standing_waits Leaving fits = absurd (false≢true (ap looks (sym fits)))
-standing_waits Armed fits = elim fits [
-  | inl at ↦ absurd (false≢true (ap looks (sym at)))
-  | inr at ↦ absurd (false≢true (ap has_stopped (sym at)))
-]
-standing_waits Woken fits = absurd (false≢true (ap looks (sym fits)))
+standing_waits post fits = grind (arith, nat_tests)
 
 -- one that may have the lock in the port may have it in the machine
 holds_so : (post : Post) (y : Stage) → Fits post y → stages.may_hold y ≡ true
     → may_hold post ≡ true
 holds_so Waiting y fits holds = absurd (looks_apart y fits holds)
-holds_so (Entering s) y fits holds = refl
-holds_so Running y fits holds = refl
-holds_so Leaving y fits holds = refl
-holds_so Armed y fits holds = refl
-holds_so Woken y fits holds = refl
+holds_so x y fits holds = refl
 
 -- one that looks at its door was started, or stands
 rests_at : (post : Post) (y : Stage) → may_look post ≡ true → Fits post y
     → (is_started y ≡ true) ⊎ (has_stopped y ≡ true)
-rests_at Waiting y may fits = by y fits
-  where
-    by : (y : Stage) → looks y ≡ true → (is_started y ≡ true) ⊎ (has_stopped y ≡ true)
-    by stages.Standing at = inr refl
-    by stages.AtDoor at = inl refl
-    by (stages.Entering s) at = absurd (false≢true at)
-    by stages.Normal at = absurd (false≢true at)
-    by stages.Leaving at = absurd (false≢true at)
-    by stages.Armed at = absurd (false≢true at)
-    by stages.Woken at = absurd (false≢true at)
-rests_at (Entering s) y may fits = absurd (false≢true may)
-rests_at Running y may fits = absurd (false≢true may)
-rests_at Leaving y may fits = absurd (false≢true may)
-rests_at Armed y may fits = elim fits [
-  | inl at ↦ inr (ap has_stopped at)
-  | inr at ↦ inl (ap is_started at)
-]
-rests_at Woken y may fits = absurd (false≢true may)
+rests_at post y may fits = grind (arith, nat_tests)
 
 started_moves : (y : Stage) → is_started y ≡ true → has_stopped y ≡ true → ⊥
-started_moves stages.Standing at stopped = false≢true at
-started_moves stages.AtDoor at stopped = false≢true stopped
-started_moves (stages.Entering s) at stopped = false≢true at
-started_moves stages.Normal at stopped = false≢true at
-started_moves stages.Leaving at stopped = false≢true at
-started_moves stages.Armed at stopped = false≢true at
-started_moves stages.Woken at stopped = false≢true stopped
+started_moves y at stopped = grind (arith, nat_tests)
 
 both : (t u : Bool) → t ≡ true → u ≡ true → not (t && u) ≡ false
 both t u e f = ap (λ x. not (x && u)) e ∙ ap not f
 
 executing : (y : Stage) → (y ≡ stages.Standing → ⊥) → runs y ≡ true
 executing stages.Standing not = absurd (not refl)
-executing stages.AtDoor not = refl
-executing (stages.Entering s) not = refl
-executing stages.Normal not = refl
-executing stages.Leaving not = refl
-executing stages.Armed not = refl
-executing stages.Woken not = refl
+executing y not = refl
 
 not_stopped : (t : Bool) → (t ≡ true → ⊥) → t ≡ false
 not_stopped true not = absurd (not refl)
@@ -111,13 +63,7 @@ not_stopped false not = refl
 -- no start is shown only where none was made, or no life is
 pub none_shown : (o : Option ℕ) (n : ℕ) (cause : Cause) → (o ≡ None → n ≡ 0)
     → start_shown o n cause ≡ None → n ≡ 0
-none_shown None n cause zero none = zero refl
-none_shown (Some l) n cause zero none =
-    by (record { life = l; number = n; cause = cause }) (n == 0) refl none
-  where
-    by : (s : Start) (t : Bool) → (n == 0) ≡ t → cond t None (Some s) ≡ None → n ≡ 0
-    by s true e none = eqb-true n 0 e
-    by s false e none = absurd (none-some s (sym none))
+none_shown o n cause zero none = grind (arith, nat_tests)
 
 module _ (b : BoardValue) (given : Given b) (m : Machine) (acts : List Act)
     (seen : IsSeen b m acts) where
@@ -170,12 +116,7 @@ module _ (b : BoardValue) (given : Given b) (m : Machine) (acts : List Act)
         ∙ (is.each c has).word ∙ word ∙ sym (starts_same c)))
 
   none_cut : NoneCut b m
-  none_cut = record {
-    powered = λ c level has low e. is.power.cut level (up b level c)
-        ∙ (given.power acts seen.run).powered c level has low (executes_so c has e);
-    awake = λ c level has low e. is.power.depth level (up b level c)
-        ∙ (given.power acts seen.run).awake c level has low (moves_so c has e);
-  }
+  none_cut = grind (arith, nat_tests, executes_so, moves_so)
 
   locked : IsLocked b m
   locked = record {
@@ -227,26 +168,4 @@ module _ (b : BoardValue) (given : Given b) (m : Machine) (acts : List Act)
       ap (λ (v : Values). last_start v c) is.control.values
       ∙ (kept.rows c).taken start (subst (λ x. Fits x (stage_at p c)) may.1
       (is.each c may.0.0).post)
-  takes_last (TakeLock c) may = tt
-  takes_last (GiveLock c) may = tt
-  takes_last (BeginCall c regs) may = tt
-  takes_last (EndCall c g) may = tt
-  takes_last (TakeAck c ack g) may = tt
-  takes_last (SendAgain c number) may = tt
-  takes_last (Stand c) may = tt
-  takes_last (Hear c) may = tt
-  takes_last (DeliverMail x t f) may = tt
-  takes_last (KeepBack x) may = tt
-  takes_last (DeliverKept c x t f) may = tt
-  takes_last (WakeUp c t) may = tt
-  takes_last (ServeDoor c) may = tt
-  takes_last (ResetCore c t) may = tt
-  takes_last (CutPower level place) may = tt
-  takes_last (Carry mail acks) may = tt
-  takes_last (RestartAll f s) may = tt
-  takes_last (RebootAll f t) may = tt
-  takes_last (ArmCore c) may = tt
-  takes_last (SleepCore c) may = tt
-  takes_last (RouseCore c) may = tt
-  takes_last (RiseCore c t) may = tt
-  takes_last (TurnCore c) may = tt
+  takes_last step may = tt

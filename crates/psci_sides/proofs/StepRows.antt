@@ -1,15 +1,15 @@
 -- Worked examples: what each step waits for, by a state that has no more, and for each clause by a
 -- state that breaks it.
-use Rattle.std.proofs.Common.{◌∷◌, ◌++◌, ◌≡◌, [], ap, arith, false, List, None, refl}
-use Rattle.std.proofs.Common.{subst, suc, sym, zero, ℕ}
+use Rattle.std.proofs.Common.{◌++◌, ◌∷◌, ◌≡◌, [], ap, arith, false, List, None, refl, subst, suc}
+use Rattle.std.proofs.Common.{sym, zero, ℕ}
 use Rattle.std.proofs.lemmas.Bool.{eqb-false, false≢true}
 use Rattle.std.proofs.lemmas.Option.{none-some, same_Some}
 use Rattle.psci_messages.specs.Message.{MessageValue}
 use Rattle.psci_ctl_spec.specs.declared.call.CtlCall.TheVariants as asked
-use Rattle.psci_ctl_spec.specs.Legal.{IsSendable}
-use Rattle.psci_fw.specs.Seen.{FirmwareValue}
+use Rattle.psci_ctl_spec.specs.History.{IsSendable}
+use Rattle.psci_fw.specs.Reactions.{FirmwareValue}
 use Rattle.psci_fw_spec.specs.declared.call.FwCall.TheVariants as calls
-use Rattle.psci_fw_spec.specs.After as leaves
+use Rattle.psci_fw_spec.specs.Effects as leaves
 use Rattle.psci_fw_spec.specs.Values.{Values}
 use Rattle.psci_control.specs.ControlSide.{ControlValue}
 use Rattle.psci_control.specs.declared.door.DoorOrder.TheVariants.{Write}
@@ -17,18 +17,16 @@ use Rattle.psci_enter.specs.Side.{IsAsked}
 use Rattle.psci_enter.specs.declared.order.Look.{Look}
 use Rattle.psci_enter.specs.declared.order.Look.TheVariants as look
 use Rattle.psci_sides.specs.Machine.{Machine}
-use Rattle.psci_sides.specs.Steps.{ArmCore, ArmedLacks, BeginCall, BeginEntry, Carry, CutPower}
-use Rattle.psci_sides.specs.Steps.{DeliverKept, DeliverMail, EndCall, GiveLock, IsDue, IsMadeAnew}
-use Rattle.psci_sides.specs.Steps.{KeepBack, LookAtDoor, May, MayReset, MayRise, NoneArmed}
-use Rattle.psci_sides.specs.Steps.{RiseCore}
-use Rattle.psci_sides.specs.Steps.{RouseCore, SendAgain, ServeDoor, SleepCore, Stand, Step, TakeAck}
-use Rattle.psci_sides.specs.Steps.{TakeLock, TurnCore, WakeUp, came_back, wake_of}
+use Rattle.psci_sides.specs.Steps.{ArmCore, ArmedLacks, BeginCall, BeginEntry, came_back, Carry}
+use Rattle.psci_sides.specs.Steps.{CutPower, DeliverKept, DeliverMail, EndCall, GiveLock, IsDue}
+use Rattle.psci_sides.specs.Steps.{IsMadeAnew, KeepBack, LookAtDoor, May, MayReset, MayRise}
+use Rattle.psci_sides.specs.Steps.{NoneArmed, RiseCore, RouseCore, SendAgain, ServeDoor, SleepCore}
+use Rattle.psci_sides.specs.Steps.{Stand, Step, TakeAck, TakeLock, TurnCore, wake_of, WakeUp}
 use Rattle.psci_sides.proofs.Framed.{nothing_in}
 use Rattle.psci_sides.proofs.Pair.{ack_of, anew, arms_off, boot, booted, both_run, code, cpu_off}
-use Rattle.psci_sides.proofs.Pair.{done}
-use Rattle.psci_sides.proofs.Pair.{goes_off, inside_a_call, inside_off, looked_on, off_message}
-use Rattle.psci_sides.proofs.Pair.{on_message, on_start, pair, playing, rises_off, roused_off}
-use Rattle.psci_sides.proofs.Pair.{stands_off, started_armed, turns_on}
+use Rattle.psci_sides.proofs.Pair.{done, goes_off, inside_a_call, inside_off, looked_on}
+use Rattle.psci_sides.proofs.Pair.{off_message, on_message, on_start, pair, playing, rises_off}
+use Rattle.psci_sides.proofs.Pair.{roused_off, stands_off, started_armed, turns_on}
 
 -- What a step waits for --------------------------------------------------------------------------
 

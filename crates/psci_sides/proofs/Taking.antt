@@ -1,36 +1,36 @@
 -- Acknowledgements are taken.
+use Rattle.std.proofs.Common.{arith}
+use Rattle.std.proofs.lemmas.Bool.Decides.{nat_tests}
 use Rattle.std.proofs.Common.{◌<◌, ◌==◌, ◌∙◌, ◌∷◌, ◌≡◌, [], ap, Bool, cond, false, inl, inr}
-use Rattle.std.proofs.Common.{length, List, None, Some, refl, subst, sym, true, ℕ}
+use Rattle.std.proofs.Common.{length, List, None, refl, Some, subst, sym, true, ℕ}
 use Rattle.std.proofs.lemmas.Bool.{eqb-true}
 use Rattle.psci_board.specs.Board.{BoardValue, cores}
-use Rattle.psci_fw.specs.Seen.{FirmwareValue, seen as values}
+use Rattle.psci_fw.specs.Reactions.{FirmwareValue, seen as values}
 use Rattle.psci_fw_spec.specs.declared.call.FwCall.TheVariants as calls
 use Rattle.psci_fw_spec.specs.declared.reply.FwReply.{FwReply}
-use Rattle.psci_fw_spec.specs.After.{after as fw_after}
 use Rattle.psci_fw_spec.specs.Answer.{answer}
 use Rattle.psci_messages.specs.Message.{AckValue}
 use Rattle.psci_world_spec.specs.declared.event.Event.TheVariants as events
 use Rattle.psci_world_spec.specs.declared.said.Record.{Record}
 use Rattle.psci_world_spec.specs.declared.said.Said.{Said}
-use Rattle.psci_world_spec.specs.Histories.{acks, firmware_values, sent}
-use Rattle.psci_world_spec.specs.Lists.{indexed}
-use Rattle.psci_world_spec.specs.Legal.{asked_firmware, said_of}
-use Rattle.psci_port.specs.Port.{Act, Finishes, Port, Row, Takes, begins, ended}
-use Rattle.psci_port.specs.Port.{finished, state, step}
+use Rattle.psci_world_spec.specs.Legal.{acks, asked_firmware, firmware_values, indexed, said_of}
+use Rattle.psci_world_spec.specs.Legal.{sent}
+use Rattle.psci_port.specs.Port.{Act, begins, ended, finished, Finishes, Port, Row, state, step}
+use Rattle.psci_port.specs.Port.{Takes}
 use Rattle.psci_port.specs.Rules as rules
-use Rattle.psci_port.proofs.Keeping.{IsKept}
+use Rattle.psci_port.proofs.Locks.{IsKept}
 use Rattle.psci_port.proofs.Running.{run_kept, step_kept}
 use Rattle.psci_control.specs.SideOf as control
 use Rattle.psci_control.proofs.Apart.{apart_side}
 use Rattle.psci_enter.specs.Side.{IsAsked, reply_in}
-use Rattle.psci_enter.proofs.Asking.{lost_ack}
+use Rattle.psci_enter.proofs.Ending.{lost_ack}
 use Rattle.psci_enter.proofs.Standing.{row_same}
 use Rattle.psci_enter.proofs.Values.{taken_values}
 use Rattle.psci_sides.specs.Machine.{Machine}
 use Rattle.psci_sides.specs.Steps.{May, TakeAck, after}
 use Rattle.psci_sides.specs.Seen.{IsCoreOf, IsLent, IsMachineOf}
-use Rattle.psci_sides.proofs.Around.{made_still, sent_still}
-use Rattle.psci_sides.proofs.Given.{Follows, Given, IsSeen, no_act}
+use Rattle.psci_sides.proofs.Commanding.{made_still, sent_still}
+use Rattle.psci_sides.proofs.Carrying.{Follows, Given, IsSeen, no_act}
 use Rattle.psci_sides.proofs.Locking.{has_lock}
 
 module _ (b : BoardValue) (given : Given b) (m : Machine) (acts : List Act)
@@ -62,9 +62,7 @@ module _ (b : BoardValue) (given : Given b) (m : Machine) (acts : List Act)
 
     same_said : said ≡ asked_firmware b p.past 0 (calls.Take ack)
     unfolding answer
-    same_said = ap (said_of (length (sent p.past)))
-        (ap (λ x. answer x (values m.firmware) c (calls.Take ack)) is.firmware.board
-        ∙ ap (λ v. answer b v c (calls.Take ack)) same)
+    same_said = grind (arith, nat_tests, length)
 
     abbrev mid : Port
     mid = begins p c rec
@@ -79,15 +77,10 @@ module _ (b : BoardValue) (given : Given b) (m : Machine) (acts : List Act)
     last_row : (d : ℕ) (t : Bool) → (d == c) ≡ t
         → cond t (ended rec (mid.row c)) (cond t (record (p.row c) { begun = Some rec }) (p.row d))
         ≡ cond t own (p.row d)
-    last_row d true e = ap (ended rec)
-        (row_same c (record (p.row c) { begun = Some rec }) (p.row c))
-    last_row d false e = refl
+    last_row d t e = grind (arith, nat_tests, row_same)
 
     left : values g ≡ firmware_values b (rec ∷ p.past)
-    left = asked.values
-        ∙ ap (λ x. fw_after x c (calls.Take ack) reply (values m.firmware)) is.firmware.board
-        ∙ ap (λ v. fw_after b c (calls.Take ack) reply v) same
-        ∙ sym (taken_values b given.more p.past c k ack (length (sent p.past)) reply at)
+    left = grind (arith, nat_tests, taken_values, length)
 
     taken_machine : IsMachineOf b (record m { firmware = g }) (finished mid c (Some rec))
     unfolding step
@@ -132,12 +125,7 @@ module _ (b : BoardValue) (given : Given b) (m : Machine) (acts : List Act)
 
     taken : IsSeen b (record m { firmware = g }) (Finishes c ∷ Takes c k said ∷ acts)
     unfolding state step
-    taken = record {
-      run = ((rec, mid_begun), (holds, seen.run));
-      so = (tt, ((ack, at, same_said), seen.so));
-      tied = subst (λ o. IsMachineOf b (record m { firmware = g }) (finished mid c o))
-          (sym mid_begun) taken_machine;
-    }
+    taken = grind (arith, nat_tests, mid_begun, same_said, taken_machine)
 
   pub takes_ack : (c : ℕ) (ack : AckValue) (g : FirmwareValue) → May b m (TakeAck c ack g)
       → Follows b m acts (TakeAck c ack g)

@@ -1,54 +1,133 @@
 -- A frame of use is delivered: what that leaves set aside for the other messages.
-use Rattle.std.proofs.Common.{◌+◌, ◌*◌, ◌<◌, ◌==◌, ◌∙◌, ◌∷◌, ◌≡◌, ◌≤◌, ap, arith}
-use Rattle.std.proofs.Common.{Bool, cond, false, inl, inr, List, refl, Some}
-use Rattle.std.proofs.Common.{subst, suc, sym, true, ℕ}
 use Rattle.std.specs.Prelude.{slice_get}
-use Rattle.std.proofs.lemmas.Bool.{and_from}
+use Rattle.std.proofs.Common.{◌*◌, ◌+◌, ◌<◌, ◌==◌, ◌∙◌, ◌∷◌, ◌≡◌, ◌≤◌, ap, arith, Bool, cond, false}
+use Rattle.std.proofs.Common.{inl, inr, length, List, Option, refl, Some, subst, suc, sym, true, ℕ}
+use Rattle.std.proofs.lemmas.Bool.{and_from, cond-false, cond-true, eqb-true, ne_eqb}
 use Rattle.std.proofs.lemmas.Bool.Decides.{nat_tests}
 use Rattle.psci_board.specs.Board.{BoardValue, cores, up}
-use Rattle.psci_board.specs.declared.node.Core.{Core}
-use Rattle.psci_ctl_spec.specs.Changes.{after as ctl_after, change}
-use Rattle.psci_ctl_spec.specs.Effects.{Effect, effect_of}
-use Rattle.psci_ctl_spec.specs.Replies.{ack_by, is_this_life, reply}
+use Rattle.psci_board.specs.declared.draft.Core.{Core}
+use Rattle.psci_messages.specs.Message.{AckValue, MessageValue}
+use Rattle.psci_messages.specs.Slots.{answers, is_done, OfCore, OfSystem, Slot, slot_of}
+use Rattle.psci_messages.specs.declared.kind.Kind.{Kind}
+use Rattle.psci_messages.specs.declared.kind.Kind.TheVariants as kinds
+use Rattle.psci_ctl_spec.specs.Replies.{ack_by, after as ctl_after, Begins, change, Deepens, Effect}
+use Rattle.psci_ctl_spec.specs.Replies.{effect_of, Ends, is_this_life, Nothing, reply, Starts}
 use Rattle.psci_ctl_spec.specs.Values.{Values}
 use Rattle.psci_ctl_spec.specs.declared.call.CtlCall.TheVariants as asked
 use Rattle.psci_ctl_spec.specs.declared.delivery.Delivery.TheVariants as deliveries
 use Rattle.psci_ctl_spec.specs.declared.reply.CtlReply.{CtlReply}
 use Rattle.psci_ctl_spec.specs.declared.reply.CtlReply.TheVariants as replies
-use Rattle.psci_fw.specs.Seen.{FirmwareValue, seen as remembers}
-use Rattle.psci_messages.specs.Message.{AckValue, MessageValue}
-use Rattle.psci_messages.specs.Slots.{OfCore, OfSystem, Slot, answers, is_done, slot_of}
-use Rattle.psci_messages.specs.declared.kind.Kind.{Kind}
-use Rattle.psci_messages.specs.declared.kind.Kind.TheVariants as kinds
+use Rattle.psci_world_spec.specs.Legal.{sent}
 use Rattle.psci_world_spec.specs.declared.event.Event.TheVariants as events
 use Rattle.psci_world_spec.specs.declared.said.Record.{Record}
-use Rattle.psci_world_spec.specs.Histories.{sent}
-use Rattle.psci_port.specs.Port.{Act, Delivers, Port, moved, state, step, told}
-use Rattle.psci_port.specs.Resting.{total}
+use Rattle.psci_port.specs.Port.{Act, Delivers, moved, Port, state, step, told}
+use Rattle.psci_port.specs.Resting.{core_left, left, total}
 use Rattle.psci_port.specs.Served.{IsSpent}
 use Rattle.psci_port.specs.Undone.{LeavesLess, left_of, served}
+use Rattle.psci_port.proofs.Powering.{moves_left, touches_core}
+use Rattle.psci_port.proofs.Truth.{same_le, total_le}
 use Rattle.psci_port.proofs.Undone.{ends_other, replied, served_other}
-use Rattle.psci_port.proofs.Sums.{same_le, total_le}
+use Rattle.psci_fw.specs.Reactions.{FirmwareValue, seen as remembers}
 use Rattle.psci_control.specs.ControlSide.{ControlValue, gate_in, gates_after, heard, orders_in}
 use Rattle.psci_control.specs.ControlSide.{values_of}
 use Rattle.psci_control.specs.Orders.{ack_in, ending_of}
 use Rattle.psci_control.specs.declared.gate.Gate.{Gate}
 use Rattle.psci_enter.specs.SideOf.{is_end}
 use Rattle.psci_sides.specs.Frames.{IsEnding, IsUnderWay, IsWanted}
-use Rattle.psci_sides.specs.Machine.{IsIn, Machine, Station, commanded}
+use Rattle.psci_sides.specs.Machine.{commanded, IsIn, Machine, Station}
 use Rattle.psci_sides.specs.Seen.{IsMachineOf}
 use Rattle.psci_sides.specs.Steps.{IsMadeAnew}
-use Rattle.psci_sides.proofs.Carrying.{done, done_acks, done_mail}
+use Rattle.psci_sides.proofs.Carrying.{done, done_acks, done_mail, Given, IsSeen}
 use Rattle.psci_sides.proofs.Commanding.{carried_now}
-use Rattle.psci_sides.proofs.Dues.{own_answer, same_firmware, same_gates, same_station}
-use Rattle.psci_sides.proofs.Dues.{done_so, rest_less, same_life}
-use Rattle.psci_sides.proofs.Dues.{starts_of}
-use Rattle.psci_sides.proofs.Given.{Given, IsSeen}
-use Rattle.psci_sides.proofs.Listed.{listed_here}
-use Rattle.psci_sides.proofs.Owing.{IsCalling, Owes, OwesNext, Pays, pays_later, rest}
-use Rattle.psci_sides.proofs.Owing.{unheard}
-use Rattle.psci_sides.proofs.Paying.{pays_core, pays_system}
-use Rattle.psci_sides.proofs.Settling.{weight}
+use Rattle.psci_sides.proofs.Ended.{listed_here}
+use Rattle.psci_sides.proofs.Quietly.{IsCalling, kind_rest, Owes, OwesNext, Pays, pays_later}
+use Rattle.psci_sides.proofs.Quietly.{rest, total_more, unheard}
+use Rattle.psci_sides.proofs.Visiting.{pays_core, pays_system}
+use Rattle.psci_sides.proofs.Settling.{all_few, weight}
+
+-- Dues --------------------------------------------------------------------------------------------
+-- What an effect of the power controller leaves of what is owed for the other messages, and of what
+-- a machine has left to do by itself.
+
+-- Messages ---------------------------------------------------------------------------------------
+
+-- the core of this number is started
+abbrev pub starts_of : Effect → ℕ → Type 0
+starts_of (Starts d cause) c = d ≡ c
+starts_of f c = ⊥
+
+-- a core that is not started has as many starts
+same_starts : (b : BoardValue) (w : Values) (g : Effect) (d : ℕ) → is_end g ≡ false
+    → ((c : ℕ) → starts_of g c → (d ≡ c → ⊥)) → (change b g w).starts d ≡ w.starts d
+same_starts b w Nothing d goes apart = refl
+same_starts b w (Starts c cause) d goes apart = cond-false _ _ _ (ne_eqb d c (apart c refl))
+same_starts b w (Deepens c ps) d goes apart = refl
+same_starts b w Ends d goes apart = absurd (cc)
+same_starts b w Begins d goes apart = absurd (cc)
+
+pub same_life : (b : BoardValue) (w : Values) (g : Effect) → is_end g ≡ false
+    → (change b g w).life ≡ w.life
+same_life b w g goes = grind (arith, nat_tests)
+
+-- no more is owed for a message whose parts are no more, and whose core is not started
+pub rest_less : (b : BoardValue) (w : Values) (g : Effect) (y : MessageValue) → is_end g ≡ false
+    → (w.life ≡ Some y.life → left_of b (change b g w) y ≤ left_of b w y)
+    → (y.kind ≡ kinds.Start → (c : ℕ) → starts_of g c → (y.core.number ≡ c → ⊥))
+    → rest b (change b g w) y ≤ rest b w y
+rest_less b w g y goes parts apart =
+    grind (arith, nat_tests, same_life, eqb-true, kind_rest, cond-true, same_le, same_starts)
+
+-- Weights ----------------------------------------------------------------------------------------
+
+-- a machine whose power controller did this
+abbrev pub done_so : BoardValue → FirmwareValue → Effect → Option AckValue → ControlValue → Machine
+    → Machine
+done_so b f g a t m = record (done b f g a m) { control = t }
+
+module _ (b : BoardValue) (p : Port) (r : Record) (g : Effect) where
+  -- one core is touched at most
+  pub start_weight : (c : ℕ) → ((d : ℕ) → (d ≡ c → ⊥) → touches_core b p r g d ≡ false)
+      → left b (moved b p g r) ≤ left b p + 21
+  start_weight c others =
+      let few = all_few (moved b p g r) c in
+      total_more (core_left p) (core_left (moved b p g r)) c 21 (cores b) (omega (arith, few))
+      (λ d has ne. same_le _ _ (moves_left b p r g d (others d ne)))
+
+  -- none is
+  pub same_weight : ((d : ℕ) → touches_core b p r g d ≡ false)
+      → left b (moved b p g r) ≤ left b p
+  same_weight none = total_le (core_left p) (core_left (moved b p g r)) (cores b)
+      (λ d has. same_le _ _ (moves_left b p r g d (none d)))
+
+-- What is acknowledged -------------------------------------------------------------------------
+
+-- the acknowledgement of a message answers it
+pub own_answer : (b : BoardValue) (v : Values) (x : MessageValue) (k : Kind)
+    → answers (ack_by b v x k) x ≡ true
+own_answer b v x k = grind (arith, nat_tests)
+
+-- and nothing of a Start is left
+pub start_done : (b : BoardValue) (v : Values) (x : MessageValue) → x.kind ≡ kinds.Start
+    → is_done (ack_by b v x kinds.Start) x ≡ true
+start_done b v x kind = grind (arith, nat_tests, length)
+
+-- What no end of a life changes ------------------------------------------------------------------
+
+pub same_firmware : (b : BoardValue) (f : FirmwareValue) (g : Effect) (a : Option AckValue)
+    (m : Machine) → is_end g ≡ false → (done b f g a m).firmware ≡ m.firmware
+same_firmware b f Ends a m goes = absurd (cc)
+same_firmware b f Begins a m goes = absurd (cc)
+same_firmware b f x a m goes = refl
+
+pub same_station : (b : BoardValue) (f : FirmwareValue) (g : Effect) (a : Option AckValue)
+    (m : Machine) → is_end g ≡ false → (done b f g a m).station ≡ m.station
+same_station b f g a m goes = grind (arith, nat_tests)
+
+pub same_gates : (g : Effect) (gates : List Gate) → is_end g ≡ false
+    → gates_after (ending_of g) gates ≡ gates
+same_gates g gates goes = grind (arith, nat_tests)
+
+-- Useful ------------------------------------------------------------------------------------------
 
 core_of : (k : Kind) (core : Core) (d : ℕ) → slot_of k core ≡ OfCore d → core.number ≡ d
 core_of k core d e = grind (arith, nat_tests)
@@ -127,14 +206,7 @@ module _ (b : BoardValue) (given : Given b) (m : Machine) (acts : List Act)
 
     -- it is not ended yet, so this much is set aside for it
     pub aside : (n : ℕ) → Pays b m (Some x) n → rest b w x + 2 ≤ n
-    aside n pays = elim pays [
-      | inl e ↦ absurd (it.wanted.unended e.0)
-      | inr other ↦ elim other [
-        | inl u ↦ subst (λ v. rest b v x + 2 ≤ n) is.control.values u.1
-        | inr low ↦ let more = subst (λ v. rest b v x + 3 ≤ n) is.control.values low in
-            omega (arith, more)
-      ]
-    ]
+    aside n pays = grind (arith, nat_tests)
 
     module _ (g : Effect) (same : now ≡ g) where
       abbrev l : Machine

@@ -1,40 +1,128 @@
 -- Words are heard, and a core that comes in takes what has ended, and sends again what was lost.
-use Rattle.std.proofs.Common.{◌+◌, ◌*◌, ◌<◌, ◌==◌, ◌∙◌, ◌∷◌, ◌++◌, ◌≡◌, ◌≤◌, ap, arith, Bool}
-use Rattle.std.proofs.Common.{cond, false, get_or-set_other, inl, inr, List, None, Option, refl}
-use Rattle.std.proofs.Common.{Some, subst, suc}
-use Rattle.std.proofs.Common.{sym, true, ℕ}
-use Rattle.std.proofs.lemmas.Bool.{eq-eqb, ltb-true, ne_eqb}
+use Rattle.std.proofs.lemmas.Bool.Decides.{nat_tests}
 use Rattle.std.specs.Prelude.{nat_lt}
+use Rattle.std.proofs.Common.{◌*◌, ◌++◌, ◌+◌, ◌<◌, ◌==◌, ◌∙◌, ◌∷◌, ◌≡◌, ◌≤◌, ap, arith, Bool}
+use Rattle.std.proofs.Common.{cond, false, get_or-set_other, inl, inr, List, None, Option, refl}
+use Rattle.std.proofs.Common.{Some, subst, suc, sym, true, zero, ℕ}
+use Rattle.std.proofs.lemmas.Bool.{eq-eqb, eqb-false, eqb-true, ltb-true, ne_eqb}
 use Rattle.std.proofs.lemmas.Option.{none-some}
 use Rattle.psci_board.specs.Board.{BoardValue, cores}
+use Rattle.psci_messages.specs.Message.{MessageValue}
+use Rattle.psci_messages.specs.Slots.{OfCore, OfSystem}
+use Rattle.psci_fw_spec.specs.Effects.{listed}
+use Rattle.psci_world_spec.specs.declared.said.Record.{Record}
 use Rattle.psci_port.specs.Port.{Act, Locks, Port, stage_at, state, step}
 use Rattle.psci_port.specs.Resting.{core_left, left, total}
 use Rattle.psci_port.specs.Stages as stages
-use Rattle.psci_port.proofs.Keeping.{IsKept}
+use Rattle.psci_port.proofs.Locks.{IsKept}
 use Rattle.psci_port.proofs.Running.{run_kept}
-use Rattle.psci_port.proofs.Staying.{locks_other, locks_own}
-use Rattle.psci_port.proofs.Sums.{same_le, total_less}
-use Rattle.psci_fw.specs.Seen.{seen as remembers}
-use Rattle.psci_fw_spec.specs.Said.{listed}
-use Rattle.psci_fw_state.specs.Seen.{message_shown}
-use Rattle.psci_messages.specs.Message.{MessageValue}
-use Rattle.psci_messages.specs.Slots.{OfCore, OfSystem}
-use Rattle.psci_world_spec.specs.declared.said.Record.{Record}
-use Rattle.psci_enter.specs.Again.{outstanding_in}
+use Rattle.psci_port.proofs.Powering.{locks_other, locks_own}
+use Rattle.psci_port.proofs.Truth.{same_le, total_le, total_less}
+use Rattle.psci_fw.specs.Reactions.{seen as remembers}
 use Rattle.psci_control.specs.ControlSide.{closed, gate_in, heard, telling, values_of, with_gate}
 use Rattle.psci_control.specs.declared.gate.Gate.{Gate}
-use Rattle.psci_enter.specs.declared.post.Post.TheVariants.{Running}
+use Rattle.psci_enter.specs.Again.{outstanding_in}
 use Rattle.psci_enter.specs.SideOf.{Fits}
+use Rattle.psci_enter.specs.declared.post.Post.TheVariants.{Running}
 use Rattle.psci_sides.specs.Frames.{IsLost, IsUnderWay}
 use Rattle.psci_sides.specs.Machine.{Machine}
 use Rattle.psci_sides.specs.Seen.{IsMachineOf}
-use Rattle.psci_sides.proofs.Given.{Given, IsSeen}
-use Rattle.psci_sides.proofs.Owing.{Owes, OwesNext, Pays, pays_later, quiet_owes, rest, total_more}
-use Rattle.psci_sides.proofs.Owing.{unheard}
-use Rattle.psci_sides.proofs.Paying.{pays_core, pays_system}
-use Rattle.psci_sides.proofs.Around.{there}
-use Rattle.psci_sides.proofs.Quietly.{gate_field}
+use Rattle.psci_sides.proofs.Commanding.{there}
+use Rattle.psci_sides.proofs.Carrying.{Given, IsSeen}
+use Rattle.psci_sides.proofs.Quietly.{gate_field, IsCalling, Owes, OwesNext, Pays, pays_later}
+use Rattle.psci_sides.proofs.Quietly.{quiet_owes, rest, total_more, unheard}
 use Rattle.psci_sides.proofs.Settling.{weight}
+
+-- What is set aside for one slot changes ----------------------------------------------------------
+
+-- one number in place of another
+abbrev pub replaced : (ℕ → ℕ) → ℕ → ℕ → ℕ → ℕ
+replaced f c n d = cond (d == c) n (f d)
+
+pub total_replaced : (f : ℕ → ℕ) (c n k : ℕ) → c < k
+    → total (replaced f c n) k + f c ≤ total f k + n
+unfolding total
+total_replaced f c n zero has = absurd (omega (arith, has))
+total_replaced f c n (suc k) has =
+    by (k == c) refl (λ low. total_replaced f c n k low)
+  where
+    by : (t : Bool) → (k == c) ≡ t → (c < k → total (replaced f c n) k + f c ≤ total f k + n)
+        → cond t n (f k) + total (replaced f c n) k + f c ≤ f k + total f k + n
+    by true e more =
+        let at : k ≡ c = eqb-true k c e in
+        let here : f k ≡ f c = ap f at in
+        let others = total_le f (replaced f c n) k (λ x low. same x (x == c) refl
+        (λ is. omega (arith, low, at, is))) in
+        omega (arith, here, others)
+      where
+        same : (x : ℕ) (t : Bool) → (x == c) ≡ t → (x ≡ c → ⊥) → cond t n (f x) ≤ f x
+        same x true e ne = absurd (ne (eqb-true x c e))
+        same x false e ne = omega arith
+    by false e more =
+        let differs = eqb-false k c e in
+        let low : c < k = grind (arith, has, differs) in
+        let others = more low in
+        omega (arith, others)
+
+module _ (b : BoardValue) (m l : Machine) (acts next : List Act) (all more : ℕ)
+    (owes : Owes b m acts all) (n call : ℕ) (calls : IsCalling b l → 232 * cores b + 2 ≤ call)
+  where
+    -- that of a core
+    pub pays_core : (c : ℕ) → c < cores b
+        → Pays b l ((remembers l.firmware).outstanding (OfCore c)) n
+        → ((d : ℕ) → d < cores b → (d ≡ c → ⊥)
+        → Pays b l ((remembers l.firmware).outstanding (OfCore d)) (owes.credit d))
+        → Pays b l ((remembers l.firmware).outstanding OfSystem) owes.system
+        → 11 * weight b next + n + call + total (unheard l) (cores b) + 1
+        ≤ 11 * weight b acts + owes.credit c + owes.call + total (unheard m) (cores b) + more
+        → OwesNext b l next all more
+    pays_core c has own others whole low =
+        let sum = owes.sum in
+        let new = total_replaced owes.credit c n (cores b) has in record {
+          less = 11 * weight b next + (total (replaced owes.credit c n) (cores b)
+              + (owes.system + (call + total (unheard l) (cores b))));
+          low = omega (arith, sum, new, low);
+          owes = record {
+            credit = replaced owes.credit c n;
+            system = owes.system;
+            call = call;
+            own = λ d within. by d (d == c) refl within;
+            whole = whole;
+            calls = calls;
+            sum = omega arith;
+          };
+        }
+      where
+        by : (d : ℕ) (t : Bool) → (d == c) ≡ t → d < cores b
+            → Pays b l ((remembers l.firmware).outstanding (OfCore d)) (cond t n (owes.credit d))
+        by d true e within = subst (λ i. Pays b l ((remembers l.firmware).outstanding (OfCore i)) n)
+            (sym (eqb-true d c e)) own
+        by d false e within = others d within (eqb-false d c e)
+
+    -- that of the system
+    pub pays_system : ((d : ℕ) → d < cores b
+        → Pays b l ((remembers l.firmware).outstanding (OfCore d)) (owes.credit d))
+        → Pays b l ((remembers l.firmware).outstanding OfSystem) n
+        → 11 * weight b next + n + call + total (unheard l) (cores b) + 1
+        ≤ 11 * weight b acts + owes.system + owes.call + total (unheard m) (cores b) + more
+        → OwesNext b l next all more
+    pays_system others whole low =
+        let sum = owes.sum in record {
+          less = 11 * weight b next + (total owes.credit (cores b)
+              + (n + (call + total (unheard l) (cores b))));
+          low = omega (arith, sum, low);
+          owes = record {
+            credit = owes.credit;
+            system = n;
+            call = call;
+            own = others;
+            whole = whole;
+            calls = calls;
+            sum = omega arith;
+          };
+        }
+
+-- Visiting ----------------------------------------------------------------------------------------
 
 module _ (b : BoardValue) (given : Given b) (m : Machine) (acts : List Act)
     (seen : IsSeen b m acts) (all : ℕ) (owes : Owes b m acts all) where
@@ -114,13 +202,7 @@ module _ (b : BoardValue) (given : Given b) (m : Machine) (acts : List Act)
   module _ (x : MessageValue) (lost : IsLost m x) where
     -- for a message that was lost as much is set aside as for a new one
     lost_pays : (n : ℕ) → Pays b m (Some x) n → rest b (values_of m.control) x + 3 ≤ n
-    lost_pays n pays = elim pays [
-      | inl e ↦ absurd (lost.ack e.0)
-      | inr other ↦ elim other [
-        | inl u ↦ absurd (lost.frame u.0)
-        | inr p ↦ p
-      ]
-    ]
+    lost_pays n pays = grind (arith, nat_tests)
 
     still_under : (y : MessageValue) → IsUnderWay m y → IsUnderWay (sending (Some x)) y
     still_under y u = elim u [
@@ -166,16 +248,11 @@ module _ (b : BoardValue) (given : Given b) (m : Machine) (acts : List Act)
         → cond s ((remembers m.firmware).outstanding (OfCore number))
         (cond t ((remembers m.firmware).outstanding OfSystem) None) ≡ Some x
         → OwesNext b (sending (Some x)) acts all 0
-    again_by number true t low at out = again_core number (ltb-true number (cores b) low) out
-    again_by number false true low at out = again_system out
-    again_by number false false low at out = absurd (none-some x out)
+    again_by number s t low at out = grind (arith, nat_tests, again_core, ltb-true, again_system)
 
   pub again_next : (number : ℕ) (x : MessageValue) → outstanding_in m.firmware number ≡ Some x
       → IsLost m x → OwesNext b (sending (outstanding_in m.firmware number)) acts all 0
-  again_next number x out lost =
-      subst (λ o. OwesNext b (sending o) acts all 0) (sym out)
-      (again_by x lost number (nat_lt number (cores b)) (number == cores b) refl refl
-      (ap (λ y. message_shown y (remembers m.firmware) number) (sym is.firmware.board) ∙ out))
+  again_next number x out lost = grind (arith, nat_tests, again_by)
 
   -- A core comes in ------------------------------------------------------------------------------
 

@@ -1,40 +1,32 @@
 -- A core is woken.
-use Rattle.std.proofs.Common.{◌<◌, ◌∙◌, ◌∷◌, ◌≡◌, [], ap, arith, Bool, false}
-use Rattle.std.proofs.Common.{List, Option, None, Some, refl, subst, sym}
-use Rattle.std.proofs.Common.{true, ℕ}
+use Rattle.std.proofs.Common.{◌<◌, ◌∙◌, ◌∷◌, ◌≡◌, [], ap, arith, Bool, false, List, None, Option}
+use Rattle.std.proofs.Common.{refl, Some, subst, sym, true, ℕ}
 use Rattle.std.specs.Prelude.{not}
 use Rattle.std.proofs.lemmas.Bool.{eqb-true, false≢true}
 use Rattle.psci_board.specs.Board.{BoardValue, cores}
 use Rattle.psci_messages.specs.Message.{AckValue}
 use Rattle.psci_ctl_spec.specs.declared.call.CtlCall.{CtlCall}
 use Rattle.psci_ctl_spec.specs.declared.call.CtlCall.TheVariants as asked
-use Rattle.psci_ctl_spec.specs.Effects.{Effect, effect_of}
-use Rattle.psci_ctl_spec.specs.Replies.{reply}
+use Rattle.psci_ctl_spec.specs.Replies.{Effect, effect_of, reply}
 use Rattle.psci_ctl_spec.specs.Values.{Values}
 use Rattle.psci_world_spec.specs.declared.event.Event.TheVariants as events
-use Rattle.psci_port.specs.Port.{Act, Port, Wakes}
-use Rattle.psci_port.specs.Port.{row_by, stage_at, state, step, woken, words}
+use Rattle.psci_port.specs.Port.{Act, Port, row_by, stage_at, state, step, Wakes, woken, words}
 use Rattle.psci_port.specs.Stages.{has_stopped}
-use Rattle.psci_port.proofs.Keeping.{IsKept}
+use Rattle.psci_port.proofs.Locks.{IsKept}
 use Rattle.psci_port.proofs.Running.{run_kept}
 use Rattle.psci_port.proofs.Started.{starts_core, woken_starts}
-use Rattle.psci_port.proofs.Held.{woken_held}
-use Rattle.psci_control.specs.ControlSide.{ControlValue}
-use Rattle.psci_control.specs.ControlSide.{heard, orders_in}
+use Rattle.psci_port.proofs.Records.{woken_held}
+use Rattle.psci_control.specs.ControlSide.{ControlValue, heard, orders_in}
 use Rattle.psci_control.specs.Orders.{ack_in}
 use Rattle.psci_control.specs.SideOf as control
 use Rattle.psci_control.proofs.Commanded.{wakes_side, woken_side}
 use Rattle.psci_enter.proofs.Keeping.{quiet_firmware}
 use Rattle.psci_enter.proofs.Others.{effect_side}
 use Rattle.psci_sides.specs.Machine.{Machine, carried, commanded, side_of}
-use Rattle.psci_sides.specs.Steps.{ArmedLacks, Asks, May}
-use Rattle.psci_sides.specs.Steps.{WakeUp, after}
-use Rattle.psci_sides.specs.Steps.{wake_of}
+use Rattle.psci_sides.specs.Steps.{after, ArmedLacks, Asks, May, wake_of, WakeUp}
 use Rattle.psci_sides.specs.Seen.{IsCoreOf, IsMachineOf}
-use Rattle.psci_sides.proofs.Around.{its_side}
-use Rattle.psci_sides.proofs.Carrying.{done}
-use Rattle.psci_sides.proofs.Commanding.{carried_now, cores_after, left_machine}
-use Rattle.psci_sides.proofs.Given.{Follows, Given, IsSeen, one_act}
+use Rattle.psci_sides.proofs.Commanding.{carried_now, cores_after, its_side, left_machine}
+use Rattle.psci_sides.proofs.Carrying.{done, Follows, Given, IsSeen, one_act}
 use Rattle.psci_sides.proofs.Delivering.{lacks, still_waits, stood_lent}
 
 kept_on : (h : Bool) → not h ≡ false → h ≡ true

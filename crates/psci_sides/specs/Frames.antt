@@ -1,14 +1,14 @@
 -- Which steps serve what is outstanding, beside those that a machine takes by itself, and where
 -- that ends.
-use Rattle.std.specs.Prelude.{◌≡◌, ℕ, ◌+◌, ◌<◌, Bool, true, false, ◌&&◌, if◌then◌else◌, ◌⊎◌}
-use Rattle.std.specs.Prelude.{List, [], ◌∷◌, ◌++◌, None, Some}
+use Rattle.std.specs.Prelude.{◌&&◌, ◌++◌, ◌+◌, ◌<◌, ◌∷◌, ◌≡◌, ◌⊎◌, [], Bool, false}
+use Rattle.std.specs.Prelude.{if◌then◌else◌, List, None, Some, true, ℕ}
 use Rattle.psci_board.specs.Board.{BoardValue, cores}
 use Rattle.psci_messages.specs.Message.{AckValue, MessageValue}
 use Rattle.psci_messages.specs.Slots.{answers, is_done, slot_of}
 use Rattle.psci_messages.specs.declared.kind.Kind.TheVariants as kinds
 use Rattle.psci_ctl_spec.specs.declared.call.CtlCall.TheVariants as asked
-use Rattle.psci_ctl_spec.specs.Legal.{IsSendable}
-use Rattle.psci_fw.specs.Seen.{seen}
+use Rattle.psci_ctl_spec.specs.History.{IsSendable}
+use Rattle.psci_fw.specs.Reactions.{seen}
 use Rattle.psci_control.specs.ControlSide.{gate_in, heard, values_of}
 use Rattle.psci_enter.specs.Again.{outstanding_in}
 use Rattle.psci_enter.specs.declared.post.Post.TheVariants.{Running}
@@ -16,12 +16,8 @@ use Rattle.psci_port.specs.Served.{IsSpent}
 use Rattle.psci_sides.specs.Kept.{Agree}
 use Rattle.psci_sides.specs.Machine.{IsIn, Machine}
 use Rattle.psci_sides.specs.Resting.{Goes, is_entering}
-use Rattle.psci_sides.specs.Steps.{ArmedLacks, Holds, IsDue, keeping, machine}
-use Rattle.psci_sides.specs.Steps.{Step, TakeLock, GiveLock, BeginCall, BeginEntry, EndCall}
-use Rattle.psci_sides.specs.Steps.{TakeAck, SendAgain, LookAtDoor, Stand, Hear, DeliverMail}
-use Rattle.psci_sides.specs.Steps.{KeepBack, DeliverKept, WakeUp, ServeDoor, ResetCore, CutPower}
-use Rattle.psci_sides.specs.Steps.{Carry, RestartAll, RebootAll, ArmCore, SleepCore, RouseCore}
-use Rattle.psci_sides.specs.Steps.{RiseCore, TurnCore}
+use Rattle.psci_sides.specs.Steps.{ArmedLacks, DeliverKept, DeliverMail, Hear, Holds, IsDue}
+use Rattle.psci_sides.specs.Steps.{keeping, machine, SendAgain, Step, TakeAck, TakeLock}
 
 -- What is under way ------------------------------------------------------------------------------
 
@@ -68,37 +64,19 @@ IsLeft b m = (x : MessageValue) × ((x.core.number < cores b) × (IsOut m x
 abbrev pub Serves : BoardValue → Machine → Step → Type 0
 Serves b m (TakeLock c) =
     (c < cores b) × (m.lock ≡ None) × ((m.side c).post ≡ Running) × IsLeft b m
-Serves b m (GiveLock c) = ⊥
-Serves b m (BeginCall c regs) = ⊥
-Serves b m (BeginEntry c start) = ⊥
-Serves b m (EndCall c g) = ⊥
 Serves b m (TakeAck c ack g) = Holds b m c × IsIn m.acks ack
     × ((x : MessageValue) × (IsOut m x × (is_end_of ack x ≡ true)))
 Serves b m (SendAgain c number) = Holds b m c
     × ((x : MessageValue) × ((outstanding_in m.firmware number ≡ Some x) × IsLost m x))
-Serves b m (LookAtDoor c pending) = ⊥
-Serves b m (Stand c) = ⊥
 Serves b m (Hear c) = (c < cores b) × (heard m.control c ≡ (m.station c).word → ⊥)
 Serves b m (DeliverMail x t f) =
     IsIn m.mail x × IsSendable b x × IsDue (asked.Deliver x) m.control
     × (x.kind ≡ kinds.Start → ArmedLacks m x.core.number) × IsWanted b m x
-Serves b m (KeepBack x) = ⊥
 Serves b m (DeliverKept c x t f) =
     (c < cores b) × ((gate_in m.control.gates c).waiting ≡ Some x) × IsSendable b x
     × IsDue (asked.Deliver x) (keeping m c)
     × (x.kind ≡ kinds.Start → ArmedLacks m x.core.number) × IsWanted b m x
-Serves b m (WakeUp c t) = ⊥
-Serves b m (ServeDoor c) = ⊥
-Serves b m (ResetCore c t) = ⊥
-Serves b m (CutPower level place) = ⊥
-Serves b m (Carry mail acks) = ⊥
-Serves b m (RestartAll f s) = ⊥
-Serves b m (RebootAll f t) = ⊥
-Serves b m (ArmCore c) = ⊥
-Serves b m (SleepCore c) = ⊥
-Serves b m (RouseCore c) = ⊥
-Serves b m (RiseCore c t) = ⊥
-Serves b m (TurnCore c) = ⊥
+Serves b m step = ⊥
 
 -- each of the newest steps is the machine's own, or serves, after these
 abbrev pub EachServes : BoardValue → Machine → List Step → List Step → Type 0

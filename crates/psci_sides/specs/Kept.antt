@@ -1,12 +1,12 @@
 -- What holds of a machine at each moment of each of its runs, in its own words.
-use Rattle.std.specs.Prelude.{◌≡◌, ℕ, ◌<◌, ◌≤◌, Bool, true, false, not, ◌&&◌}
-use Rattle.std.specs.Prelude.{◌⊎◌, List, [], ◌∷◌, None, Some}
-use Rattle.psci_board.specs.Board.{BoardValue, HasNode, cores, height, up}
-use Rattle.psci_board.specs.declared.node.Node.{Node}
+use Rattle.std.specs.Prelude.{◌&&◌, ◌<◌, ◌∷◌, ◌≡◌, ◌⊎◌, [], Bool, false, List, None, not, Some}
+use Rattle.std.specs.Prelude.{true, ℕ}
+use Rattle.psci_board.specs.Board.{BoardValue, HasNode, cores}
+use Rattle.psci_board.specs.declared.draft.Node.{Node}
 use Rattle.psci_messages.specs.Message.{MessageValue}
 use Rattle.psci_messages.specs.Slots.{OfCore, OfSystem, slot_of}
 use Rattle.psci_ctl_spec.specs.Replies.{last_start}
-use Rattle.psci_fw.specs.Seen.{seen}
+use Rattle.psci_fw.specs.Reactions.{seen}
 use Rattle.psci_fw_spec.specs.declared.call.FwCall.{FwCall}
 use Rattle.psci_fw_spec.specs.declared.status.Status.TheVariants.{Off}
 use Rattle.psci_fw_spec.specs.NodeHwState.{hw_at, node_hw}
@@ -15,15 +15,13 @@ use Rattle.psci_control.specs.ControlSide.{gate_in, telling, values_of, waits_in
 use Rattle.psci_enter.specs.Side.{may_look}
 use Rattle.psci_enter.specs.declared.order.Look.TheVariants as look
 use Rattle.psci_enter.specs.declared.post.Post.{Post}
-use Rattle.psci_enter.specs.declared.post.Post.TheVariants.{Waiting, Entering, Running, Leaving}
-use Rattle.psci_enter.specs.declared.post.Post.TheVariants.{Armed, Woken}
+use Rattle.psci_enter.specs.declared.post.Post.TheVariants.{Armed, Entering, Leaving, Running}
+use Rattle.psci_enter.specs.declared.post.Post.TheVariants.{Waiting, Woken}
+use Rattle.psci_port.specs.Kept.{IsLast, KeepsPower}
 use Rattle.psci_port.specs.Served.{IsSpent}
 use Rattle.psci_sides.specs.Machine.{Machine, has_stood, starts_in}
-use Rattle.psci_sides.specs.Steps.{Step, TakeLock, GiveLock, BeginCall, BeginEntry, EndCall}
-use Rattle.psci_sides.specs.Steps.{TakeAck, SendAgain, LookAtDoor, Stand, Hear, DeliverMail}
-use Rattle.psci_sides.specs.Steps.{KeepBack, DeliverKept, WakeUp, ServeDoor, ResetCore, CutPower}
-use Rattle.psci_sides.specs.Steps.{Carry, RestartAll, RebootAll, ArmCore, SleepCore, RouseCore}
-use Rattle.psci_sides.specs.Steps.{RiseCore, TurnCore, found_in, machine, may_hold, wake_of}
+use Rattle.psci_sides.specs.Steps.{BeginEntry, found_in, LookAtDoor, machine, may_hold, Step}
+use Rattle.psci_sides.specs.Steps.{wake_of}
 
 -- Where a core is --------------------------------------------------------------------------------
 
@@ -36,19 +34,16 @@ is_waiting Leaving = false
 is_waiting Armed = false
 is_waiting Woken = false
 
--- it executes something, the monitor included
+-- it executes what power may not cut off: all but its looks at its door once it said that it stands
 abbrev pub executes : Machine → ℕ → Bool
 executes m c = not (has_stood m c && is_waiting (m.side c).post)
 
 -- What holds -------------------------------------------------------------------------------------
 
--- Power goes under no core that executes anything, and nothing above a core is ordered down before
+-- Power goes under no core that executes this, and nothing above a core is ordered down before
 -- the core said that it stands.
-pub record NoneCut (b : BoardValue) (m : Machine) : Type 0 where
-  pub powered : (c level : ℕ) → c < cores b → level ≤ height b → executes m c ≡ true
-      → m.cut level (up b level c) ≡ false
-  pub awake : (c level : ℕ) → c < cores b → level ≤ height b → has_stood m c ≡ false
-      → m.depth level (up b level c) ≡ 0
+abbrev pub NoneCut : BoardValue → Machine → Type 0
+NoneCut b m = KeepsPower b (executes m) (has_stood m) m.cut m.depth
 
 -- One core at a time is inside the firmware, and it has the lock.
 pub record IsLocked (b : BoardValue) (m : Machine) : Type 0 where
@@ -83,33 +78,11 @@ pub record IsSound (b : BoardValue) (m : Machine) : Type 0 where
 -- a look that takes a start up takes the core's last one, which it did not use before
 abbrev pub TakesItsLast : Machine → Step → Type 0
 TakesItsLast m (LookAtDoor c pending) = found_in m c pending ≡ look.Enter
-    → ((m.station c).door.start ≡ last_start (values_of m.control) c)
-    × ((m.station c).door.opened ≡ starts_in m c) × ((m.side c).used < starts_in m c)
+    → IsLast (m.station c).door.start (last_start (values_of m.control) c)
+    (m.station c).door.opened (m.side c).used (starts_in m c)
 -- and it enters by that
 TakesItsLast m (BeginEntry c start) = last_start (values_of m.control) c ≡ Some start
-TakesItsLast m (TakeLock c) = Unit {0}
-TakesItsLast m (GiveLock c) = Unit {0}
-TakesItsLast m (BeginCall c regs) = Unit {0}
-TakesItsLast m (EndCall c g) = Unit {0}
-TakesItsLast m (TakeAck c ack g) = Unit {0}
-TakesItsLast m (SendAgain c number) = Unit {0}
-TakesItsLast m (Stand c) = Unit {0}
-TakesItsLast m (Hear c) = Unit {0}
-TakesItsLast m (DeliverMail x t f) = Unit {0}
-TakesItsLast m (KeepBack x) = Unit {0}
-TakesItsLast m (DeliverKept c x t f) = Unit {0}
-TakesItsLast m (WakeUp c t) = Unit {0}
-TakesItsLast m (ServeDoor c) = Unit {0}
-TakesItsLast m (ResetCore c t) = Unit {0}
-TakesItsLast m (CutPower level place) = Unit {0}
-TakesItsLast m (Carry mail acks) = Unit {0}
-TakesItsLast m (RestartAll f s) = Unit {0}
-TakesItsLast m (RebootAll f t) = Unit {0}
-TakesItsLast m (ArmCore c) = Unit {0}
-TakesItsLast m (SleepCore c) = Unit {0}
-TakesItsLast m (RouseCore c) = Unit {0}
-TakesItsLast m (RiseCore c t) = Unit {0}
-TakesItsLast m (TurnCore c) = Unit {0}
+TakesItsLast m step = Unit {0}
 
 -- the same of each step of a run
 abbrev pub EachTakesItsLast : BoardValue → Machine → List Step → Type 0

@@ -1,17 +1,16 @@
 -- A machine with both sides of a port, and what steps leave of it.
-use Rattle.std.specs.Prelude.{◌≡◌, ℕ, Bool, false, ◌==◌, if◌then◌else◌}
-use Rattle.std.specs.Prelude.{List, [], ◌∷◌, ◌++◌, Option, None, Some, slice_get}
+use Rattle.std.specs.Prelude.{◌++◌, ◌==◌, ◌∷◌, ◌≡◌, [], Bool, false, if◌then◌else◌, List, None}
+use Rattle.std.specs.Prelude.{Option, slice_get, Some, ℕ}
 use Rattle.psci_abi.specs.Calls.{request_of}
-use Rattle.psci_board.specs.Board.{BoardValue}
-use Rattle.psci_board.specs.Paths.{is_on_path}
+use Rattle.psci_board.specs.Board.{BoardValue, is_on_path}
 use Rattle.psci_messages.specs.Message.{AckValue, MessageValue}
-use Rattle.psci_ctl_spec.specs.Changes.{with_path_on}
+use Rattle.psci_ctl_spec.specs.Replies.{with_path_on}
 use Rattle.psci_ctl_spec.specs.Values.{first_depth}
-use Rattle.psci_fw.specs.Seen.{FirmwareValue}
+use Rattle.psci_fw.specs.Reactions.{FirmwareValue}
 use Rattle.psci_fw_spec.specs.declared.call.FwCall.{FwCall}
 use Rattle.psci_fw_spec.specs.declared.call.FwCall.TheVariants as calls
 use Rattle.psci_fw_spec.specs.declared.reply.FwReply.{FwReply}
-use Rattle.psci_fw_spec.specs.Said.{listed}
+use Rattle.psci_fw_spec.specs.Effects.{listed}
 use Rattle.psci_control.specs.declared.door.DoorOrder.{DoorOrder}
 use Rattle.psci_control.specs.declared.door.DoorOrder.TheVariants.{Write, Open}
 use Rattle.psci_control.specs.declared.order.Ending.{Ending}

@@ -13,11 +13,9 @@ use Rattle.psci_enter.specs.declared.post.Post.TheVariants.{Waiting, Entering, R
 use Rattle.psci_enter.specs.declared.post.Post.TheVariants.{Armed, Woken}
 use Rattle.psci_sides.specs.Kept.{IsStill, hearing}
 use Rattle.psci_sides.specs.Machine.{Machine}
-use Rattle.psci_sides.specs.Steps.{Step, TakeLock, GiveLock, BeginCall, BeginEntry, EndCall}
-use Rattle.psci_sides.specs.Steps.{TakeAck, SendAgain, LookAtDoor, Stand, Hear, DeliverMail}
-use Rattle.psci_sides.specs.Steps.{KeepBack, DeliverKept, WakeUp, ServeDoor, ResetCore, CutPower}
-use Rattle.psci_sides.specs.Steps.{Carry, RestartAll, RebootAll, ArmCore, SleepCore, RouseCore}
-use Rattle.psci_sides.specs.Steps.{RiseCore, TurnCore, Holds, Lacks, due_at, found_in, machine}
+use Rattle.psci_sides.specs.Steps.{Step, TakeLock, GiveLock, BeginEntry, EndCall, LookAtDoor, Stand}
+use Rattle.psci_sides.specs.Steps.{ServeDoor, ArmCore, SleepCore, TurnCore, Holds, Lacks, due_at}
+use Rattle.psci_sides.specs.Steps.{found_in, machine}
 
 -- it is on its way into the firmware
 abbrev pub is_entering : Post → Bool
@@ -35,30 +33,16 @@ abbrev pub Goes : BoardValue → Machine → Step → Type 0
 Goes b m (TakeLock c) =
     (c < cores b) × (m.lock ≡ None) × (is_entering (m.side c).post ≡ true)
 Goes b m (GiveLock c) = Holds b m c × (is_entering (m.side c).post ≡ false)
-Goes b m (BeginCall c regs) = ⊥
 Goes b m (BeginEntry c start) = Holds b m c × ((m.side c).post ≡ Entering start)
 Goes b m (EndCall c g) = (c < cores b) × ((call : FwCall) × ((m.station c).lent ≡ Some call))
-Goes b m (TakeAck c ack g) = ⊥
-Goes b m (SendAgain c number) = ⊥
 Goes b m (LookAtDoor c pending) = (c < cores b) × ((m.station c).held ≡ false)
     × (may_look (m.side c).post ≡ true) × (found_in m c pending ≡ look.Enter) × Lacks m c
 Goes b m (Stand c) = (c < cores b) × ((m.side c).post ≡ Leaving) × Lacks m c
-Goes b m (Hear c) = ⊥
-Goes b m (DeliverMail x t f) = ⊥
-Goes b m (KeepBack x) = ⊥
-Goes b m (DeliverKept c x t f) = ⊥
-Goes b m (WakeUp c t) = ⊥
 Goes b m (ServeDoor c) = (c < cores b) × ((order : DoorOrder) × (due_at m c ≡ Some order))
-Goes b m (ResetCore c t) = ⊥
-Goes b m (CutPower level place) = ⊥
-Goes b m (Carry mail acks) = ⊥
-Goes b m (RestartAll f s) = ⊥
-Goes b m (RebootAll f t) = ⊥
 Goes b m (ArmCore c) = (c < cores b) × ((m.side c).post ≡ Leaving)
 Goes b m (SleepCore c) = (c < cores b) × ((m.side c).post ≡ Armed) × Lacks m c
-Goes b m (RouseCore c) = ⊥
-Goes b m (RiseCore c t) = ⊥
 Goes b m (TurnCore c) = (c < cores b) × ((m.side c).post ≡ Woken) × Lacks m c
+Goes b m step = ⊥
 
 -- each of the newest steps is such a step, after these
 abbrev pub EachGoes : BoardValue → Machine → List Step → List Step → Type 0

@@ -1,6 +1,6 @@
 -- A machine seen as a port: which acts a step is, and what the two say of each other.
-use Rattle.std.specs.Prelude.{◌≡◌, ℕ, ◌<◌, Bool, true, false, ◌⊎◌}
-use Rattle.std.specs.Prelude.{List, [], ◌∷◌, ◌++◌, Option, None, Some}
+use Rattle.std.specs.Prelude.{◌++◌, ◌<◌, ◌∷◌, ◌≡◌, ◌⊎◌, [], Bool, false, List, None, Option}
+use Rattle.std.specs.Prelude.{Some, true, ℕ}
 use Rattle.psci_board.specs.Board.{BoardValue, cores}
 use Rattle.psci_messages.specs.Message.{AckValue, MessageValue}
 use Rattle.psci_fw_spec.specs.declared.call.FwCall.{FwCall}
@@ -9,8 +9,7 @@ use Rattle.psci_world_spec.specs.declared.event.Event.{Event}
 use Rattle.psci_world_spec.specs.declared.event.Event.TheVariants.{Call, Enter}
 use Rattle.psci_world_spec.specs.declared.said.Record.{Record}
 use Rattle.psci_world_spec.specs.declared.said.Said.{Said}
-use Rattle.psci_world_spec.specs.Histories.{acks, sent}
-use Rattle.psci_world_spec.specs.Lists.{indexed}
+use Rattle.psci_world_spec.specs.Legal.{acks, indexed, sent}
 use Rattle.psci_control.specs.declared.door.DoorOrder.{DoorOrder}
 use Rattle.psci_control.specs.declared.door.DoorOrder.TheVariants.{Write, Open}
 use Rattle.psci_control.specs.ControlSide.{IsControlSide, gate_in, waits_in}
@@ -22,15 +21,15 @@ use Rattle.psci_enter.specs.declared.order.Look.{Look}
 use Rattle.psci_enter.specs.declared.order.Look.TheVariants as look
 use Rattle.psci_enter.specs.declared.post.Post.{Post}
 use Rattle.psci_enter.specs.declared.post.Post.TheVariants.{Entering}
-use Rattle.psci_port.specs.Port.{Port, Row, Act, Locks, Unlocks, Calls, Enters, Takes, Finishes}
-use Rattle.psci_port.specs.Port.{TakesUp, Stands, Delivers, Wakes, Resets, Writes, Opens, Cuts}
-use Rattle.psci_port.specs.Port.{Restarts, Reboots, Arms, Sleeps, Rouses, Rises, Turns}
+use Rattle.psci_port.specs.Port.{Act, Arms, Calls, Cuts, Delivers, Enters, Finishes, Locks}
+use Rattle.psci_port.specs.Port.{Opens, Port, Reboots, Resets, Restarts, Rises, Rouses, Row}
+use Rattle.psci_port.specs.Port.{Sleeps, Stands, Takes, TakesUp, Turns, Unlocks, Wakes, Writes}
 use Rattle.psci_sides.specs.Machine.{IsIn, Machine, Station, has_stood}
-use Rattle.psci_sides.specs.Steps.{Step, TakeLock, GiveLock, BeginCall, BeginEntry, EndCall}
-use Rattle.psci_sides.specs.Steps.{TakeAck, SendAgain, LookAtDoor, Stand, Hear, DeliverMail}
-use Rattle.psci_sides.specs.Steps.{KeepBack, DeliverKept, WakeUp, ServeDoor, ResetCore, CutPower}
-use Rattle.psci_sides.specs.Steps.{Carry, RestartAll, RebootAll, ArmCore, SleepCore, RouseCore}
-use Rattle.psci_sides.specs.Steps.{RiseCore, TurnCore, due_at, found_in, machine, wake_of}
+use Rattle.psci_sides.specs.Steps.{ArmCore, BeginCall, BeginEntry, Carry, CutPower, DeliverKept}
+use Rattle.psci_sides.specs.Steps.{DeliverMail, due_at, EndCall, found_in, GiveLock, Hear, KeepBack}
+use Rattle.psci_sides.specs.Steps.{LookAtDoor, machine, RebootAll, ResetCore, RestartAll, RiseCore}
+use Rattle.psci_sides.specs.Steps.{RouseCore, SendAgain, ServeDoor, SleepCore, Stand, Step, TakeAck}
+use Rattle.psci_sides.specs.Steps.{TakeLock, TurnCore, wake_of, WakeUp}
 
 -- Which acts a step is ---------------------------------------------------------------------------
 

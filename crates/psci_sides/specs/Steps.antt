@@ -1,28 +1,26 @@
 -- The steps of a machine with both sides: each is a call of a side whose orders are carried out, or
 -- comes from outside. What a step waits for is what the methods ask of a caller, and the hooks'.
-use Rattle.std.specs.Prelude.{◌≡◌, ℕ, ◌<◌, Bool, true, false, ◌==◌, ◌&&◌, if◌then◌else◌}
-use Rattle.std.specs.Prelude.{List, [], ◌∷◌, ◌++◌, Option, None, Some, replicate}
+use Rattle.std.specs.Prelude.{◌&&◌, ◌++◌, ◌<◌, ◌==◌, ◌∷◌, ◌≡◌, [], Bool, false, if◌then◌else◌}
+use Rattle.std.specs.Prelude.{List, None, Option, replicate, Some, true, ℕ}
 use Rattle.psci_abi.specs.declared.registers.Regs.{Regs}
-use Rattle.psci_board.specs.Board.{BoardValue, cores, up}
-use Rattle.psci_board.specs.Paths.{is_on_path}
+use Rattle.psci_board.specs.Board.{BoardValue, cores, is_on_path, up}
 use Rattle.psci_messages.specs.Message.{AckValue, MessageValue}
 use Rattle.psci_messages.specs.declared.kind.Kind.TheVariants as kinds
 use Rattle.psci_messages.specs.declared.start.Start.{Start}
 use Rattle.psci_ctl_spec.specs.declared.call.CtlCall.{CtlCall}
 use Rattle.psci_ctl_spec.specs.declared.call.CtlCall.TheVariants as asked
-use Rattle.psci_ctl_spec.specs.Changes.{change}
-use Rattle.psci_ctl_spec.specs.Effects.{Begins}
-use Rattle.psci_ctl_spec.specs.Legal.{IsSendable}
-use Rattle.psci_fw.specs.Seen.{FirmwareValue, seen}
+use Rattle.psci_ctl_spec.specs.Replies.{Begins, change}
+use Rattle.psci_ctl_spec.specs.History.{IsSendable}
+use Rattle.psci_fw.specs.Reactions.{FirmwareValue, seen}
 use Rattle.psci_fw_spec.specs.declared.call.FwCall.{FwCall}
 use Rattle.psci_fw_spec.specs.declared.call.FwCall.TheVariants as calls
-use Rattle.psci_fw_spec.specs.Lives.{start_of_life}
-use Rattle.psci_fw_spec.specs.Said.{listed}
+use Rattle.psci_fw_spec.specs.Changes.{start_of_life}
+use Rattle.psci_fw_spec.specs.Effects.{listed}
 use Rattle.psci_control.specs.declared.door.DoorOrder.{DoorOrder}
-use Rattle.psci_control.specs.ControlSide.{ControlValue, IsAsked, IsControlSide, board_of, closed}
-use Rattle.psci_control.specs.ControlSide.{door_due, gate_in, heard, holding, ordered, orders_in}
-use Rattle.psci_control.specs.ControlSide.{reply_in, served, telling, values_of, waits_in}
-use Rattle.psci_control.specs.ControlSide.{with_gate}
+use Rattle.psci_control.specs.ControlSide.{board_of, closed, ControlValue, door_due, gate_in}
+use Rattle.psci_control.specs.ControlSide.{heard, holding, IsAsked, IsControlSide, ordered}
+use Rattle.psci_control.specs.ControlSide.{orders_in, reply_in, served, telling, values_of}
+use Rattle.psci_control.specs.ControlSide.{waits_in, with_gate}
 use Rattle.psci_control.specs.SideOf.{IsNew}
 use Rattle.psci_enter.specs.Again.{outstanding_in}
 use Rattle.psci_enter.specs.Side.{at, found, looked, may_look}
@@ -31,10 +29,10 @@ use Rattle.psci_enter.specs.SideOf.{is_started}
 use Rattle.psci_enter.specs.declared.order.Look.{Look}
 use Rattle.psci_enter.specs.declared.order.Look.TheVariants as look
 use Rattle.psci_enter.specs.declared.post.Post.{Post}
-use Rattle.psci_enter.specs.declared.post.Post.TheVariants.{Waiting, Entering, Running, Leaving}
-use Rattle.psci_enter.specs.declared.post.Post.TheVariants.{Armed, Woken}
-use Rattle.psci_sides.specs.Machine.{Machine, Station, IsIn, cold, commanded, door_by, lent_to}
-use Rattle.psci_sides.specs.Machine.{returned, side_of, with_core}
+use Rattle.psci_enter.specs.declared.post.Post.TheVariants.{Armed, Entering, Leaving, Running}
+use Rattle.psci_enter.specs.declared.post.Post.TheVariants.{Waiting, Woken}
+use Rattle.psci_sides.specs.Machine.{cold, commanded, door_by, IsIn, lent_to, Machine, returned}
+use Rattle.psci_sides.specs.Machine.{side_of, Station, with_core}
 
 -- A step. A method's result stands in it: the firmware, or the power controller's side, that the
 -- method leaves, and the firmware that is made anew if a life ends.

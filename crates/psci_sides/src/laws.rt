@@ -4,7 +4,7 @@
 ghost use Rattle.std.specs.Prelude.{◌≡◌, ℕ, ◌≤◌, ◌+◌, ◌*◌, ◌++◌, length, List};
 ghost use Rattle.psci_board.specs.Board.{BoardValue, IsBoard, cores};
 ghost use Rattle.psci_control.specs.ControlSide.{ControlValue};
-ghost use Rattle.psci_fw.specs.Seen.{FirmwareValue};
+ghost use Rattle.psci_fw.specs.Reactions.{FirmwareValue};
 ghost use Rattle.psci_port.specs.Kept.{AreLegal, AreSafe, runs};
 ghost use Rattle.psci_port.specs.Port.{Act, state};
 ghost use Rattle.psci_port.specs.Rules.{AreTrue, IsPortRun};
@@ -33,16 +33,16 @@ use psci_port::{law_agrees, law_port, law_power, law_rests, law_undone};
 /// Every run of a machine in which both sides call, and the board's hooks carry their orders out,
 /// is a true run of a port, seen through its acts, and the two sides go on describing that port. So
 /// what is asked and said is a legal run from each reset of all to the next, and safe. At every
-/// moment no power is off below which a core executes anything, one core at a time is inside the
-/// firmware, and no wake-up is lost before WFI. Each start is taken up at most once, as its core's
-/// last one. Where nothing is due and nothing is left to serve, firmware and power controller
-/// agree. Once nothing comes from outside, a machine is at rest after at most `most_steps` steps
-/// for each core of the board.
+/// moment no power is off under a core from its start until it says that it stands, or of an armed
+/// one until its WFI. One core at a time is inside the firmware, and no wake-up is lost before WFI.
+/// Each start is taken up at most once, as its core's last one. Where nothing is due and nothing is
+/// left to serve, firmware and power controller agree. Once nothing comes from outside, a machine
+/// is at rest after at most `most_steps` steps for each core of the board.
 ///
-/// Once frames get through, all of it comes to rest. The machine's own steps and those that serve
-/// are at most `most_served` for each core, and `most_visit` for each time that a core of the
-/// normal world comes in to take an acknowledgement or to send a message again. Where none of these
-/// is left, no frame is of use; and where a core is in the normal world, the two sides agree.
+/// Once frames get through, its own steps and those that serve are at most `most_served` for each
+/// core, and `most_visit` for each time that a core of the normal world comes in to take what ended
+/// or to send again: all comes to rest, unless cores come in for ever. Where none is left, no frame
+/// is of use; and where a core is in the normal world and the life does not halt, both sides agree.
 ///
 /// The power controller has a core of its own, and no core is armed; or it is in the monitors, and
 /// whoever has the lock is it. Then a core may say that it stands with the lock in hand, and carry

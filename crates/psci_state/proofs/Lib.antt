@@ -1,3 +1,2 @@
-pub mod Back
 pub mod Words
 pub use Rattle.psci_abi.proofs.Tables

@@ -1,7 +1,7 @@
 -- What is kept of cores and of power domains.
-use Rattle.std.specs.Prelude.{ℕ, Bool, true, false, List, [], length, slice_index}
-use Rattle.std.specs.Prelude.{slice_index_or, unwrap_or, nat_le, nat_lt, if◌then◌else◌}
-use Rattle.psci_state.specs.Ask.{IsAsk, power_down, running}
+use Rattle.std.specs.Prelude.{[], Bool, false, if◌then◌else◌, length, List, nat_le, nat_lt}
+use Rattle.std.specs.Prelude.{slice_index, slice_index_or, true, unwrap_or, ℕ}
+use Rattle.psci_state.specs.PowerState.{IsAsk, power_down, running}
 use Rattle.psci_state.specs.declared.cores.CoreState.{CoreState}
 use Rattle.psci_state.specs.declared.cores.Change.{Change}
 use Rattle.psci_state.specs.declared.cores.Activity.{Activity}

@@ -1,4 +1,3 @@
-pub mod Ask
-pub mod Cores
 pub mod PowerState
+pub mod Cores
 pub use Rattle.psci_abi.specs as psci_abi

@@ -1,8 +1,8 @@
 //! What a core asks of its power domains.
 
 ghost use Rattle.std.specs.Prelude.{◌≡◌, ℕ, ◌≤◌, ◌<◌, ◌^◌, ◌↔◌, slice_index, if◌then◌else◌, IfOk};
-ghost use Rattle.psci_state.specs.Ask.{IsAsk, deepest_of, highest_of, is_ask, is_deep};
-ghost use Rattle.psci_state.specs.PowerState.{ask_of, asked, id_of, is_state_id, word_of};
+ghost use Rattle.psci_state.specs.PowerState.{ask_of, asked, deepest_of, highest_of, id_of, is_ask};
+ghost use Rattle.psci_state.specs.PowerState.{is_deep, is_state_id, IsAsk, word_of};
 
 use crate::fault::BadState;
 use crate::fields::{Fields, bits};
@@ -28,7 +28,7 @@ pub struct Ask {
 
 impl Model for Ask {
     ghost use Rattle.std.specs.Prelude.{ℕ, List};
-    ghost use Rattle.psci_state.specs.Ask.{IsAsk};
+    ghost use Rattle.psci_state.specs.PowerState.{IsAsk};
 
     ghost Value = { List ℕ };
 
@@ -66,7 +66,7 @@ impl Ask {
     }
 
     /// The ask of a state id.
-    #[tactic(auto, using(crate::proofs::Back::ask_laws))]
+    #[tactic(auto, using(crate::proofs::Words::ask_laws))]
     fn of_state_id(id: u32) -> Option<Ask>
         ensures { result ≡ (if is_state_id id then Some (asked id) else None) }
     {

@@ -1,8 +1,8 @@
 //! The fields of a power state word.
 
 ghost use Rattle.std.specs.Prelude.{◌≡◌, ◌+◌, ◌≤◌, ◌<◌};
-ghost use Rattle.psci_state.specs.PowerState.{bits, power_level, reserved_is_zero};
-ghost use Rattle.psci_state.specs.PowerState.{state_id, state_type};
+ghost use Rattle.psci_state.specs.PowerState.{bits, power_level, reserved_is_zero, state_id};
+ghost use Rattle.psci_state.specs.PowerState.{state_type};
 
 use psci_abi::Format;
 

@@ -1,9 +1,8 @@
 //! What holds of power state words.
 
 ghost use Rattle.std.specs.Prelude.{◌≡◌, ℕ, ◌^◌, ◌<◌, ◌≤◌, ◌↔◌, List, IsTrue};
-ghost use Rattle.psci_abi.specs.declared.format.Format.{Format};
-ghost use Rattle.psci_state.specs.Ask.{IsAsk, highest_of, is_ask};
-ghost use Rattle.psci_state.specs.PowerState.{ask_of, word_of};
+ghost use Rattle.psci_abi.specs.declared.registers.Format.{Format};
+ghost use Rattle.psci_state.specs.PowerState.{ask_of, highest_of, is_ask, IsAsk, word_of};
 
 /// Power state words and asks give each other back, in both formats.
 pub fn law_power_states()

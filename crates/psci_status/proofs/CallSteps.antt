@@ -1,28 +1,41 @@
 -- What the calls of a polled firmware have to show, over plain values.
-use Rattle.std.proofs.Common.{◌≡◌, ◌≢◌, ℕ, ◌<◌, List, Bool, true, false, refl, sym, ap, ◌∙◌, subst}
-use Rattle.std.proofs.Common.{replicate, [], ◌∷◌, ◌+◌, ◌*◌, ◌^◌, ◌≤◌, length, Option, None, Some}
-use Rattle.std.proofs.Common.{arith}
-use Rattle.std.specs.Prelude.{◌==◌, if◌then◌else◌, option_map, Result, Ok, Err}
+use Rattle.std.specs.Prelude.{◌==◌, Err, if◌then◌else◌, Ok, option_map, Result}
+use Rattle.std.proofs.Common.{◌*◌, ◌+◌, ◌<◌, ◌^◌, ◌∙◌, ◌∷◌, ◌≡◌, ◌≢◌, ◌≤◌, [], ap, arith, Bool}
+use Rattle.std.proofs.Common.{false, length, List, None, Option, refl, replicate, Some, subst}
+use Rattle.std.proofs.Common.{sym, true, ℕ}
 use Rattle.std.proofs.lemmas.List.{get_or-replicate}
 use Rattle.std.proofs.lemmas.Nat.{mul-le}
 use Rattle.atomic_table.specs.Seated.{TableId}
 use Rattle.psci_abi.specs.Calls.{request_of}
-use Rattle.psci_abi.specs.declared.code.Code.{Code}
+use Rattle.psci_abi.specs.declared.registers.Code.{Code}
+use Rattle.psci_abi.specs.declared.registers.Format.TheVariants.{Original}
 use Rattle.psci_abi.specs.declared.registers.Regs.{Regs}
 use Rattle.psci_abi.specs.declared.request.Request.{Request}
 use Rattle.psci_abi.specs.declared.request.Request.TheVariants as requests
-use Rattle.psci_board.specs.Board.{BoardValue, IsBoard, cores}
-use Rattle.psci_board.specs.declared.node.Core.{Core}
+use Rattle.psci_board.specs.Board.{BoardValue, core_of, cores, IsBoard, node_of, up}
+use Rattle.psci_board.specs.declared.draft.Core.{Core}
+use Rattle.psci_messages.specs.Message.{AckValue, MessageValue}
+use Rattle.psci_messages.specs.Outstanding.{changes_since, last_message, outstanding}
+use Rattle.psci_messages.specs.Slots.{slot_of}
 use Rattle.psci_messages.specs.declared.kind.Kind.{Kind}
 use Rattle.psci_messages.specs.declared.kind.Kind.TheVariants as kinds
+use Rattle.psci_messages.specs.declared.start.Cause.{Cause}
+use Rattle.psci_messages.specs.declared.start.Cause.TheVariants.{Boot}
 use Rattle.psci_messages.specs.declared.taken.Taken.{Taken}
-use Rattle.psci_messages.specs.declared.taken.Taken.TheVariants.{Used, Old}
-use Rattle.psci_messages.specs.Message.{AckValue, MessageValue}
-use Rattle.psci_messages.specs.Slots.{slot_of}
-use Rattle.psci_fw.specs.Reactions.{number_of, slot_number}
-use Rattle.psci_fw.specs.Seen.{FirmwareValue, seen}
+use Rattle.psci_messages.specs.declared.taken.Taken.TheVariants.{Old, Used}
+use Rattle.psci_fw_spec.specs.Effects.{after, effect_of, function_effect, FwExchange}
+use Rattle.psci_fw_spec.specs.Effects.{sent_effect}
+use Rattle.psci_fw_spec.specs.Answer.{answer, call_fault, enter_outcome, outcome_of, reply_or}
+use Rattle.psci_fw_spec.specs.PowerCalls.{off_parts, start_outcome, stops, suspend_parts}
+use Rattle.psci_fw_spec.specs.PowerCalls.{target_of}
+use Rattle.psci_fw_spec.specs.History.{values_of}
+use Rattle.psci_fw_spec.specs.Legal.{IsLegal, legal_reply}
+use Rattle.psci_fw_spec.specs.Changes.{start_of_life}
+use Rattle.psci_fw_spec.specs.Statuses.{added, statuses}
+use Rattle.psci_fw_spec.specs.Values.{Values}
+use Rattle.psci_fw_spec.specs.Invariant.{view}
 use Rattle.psci_fw_spec.specs.declared.call.FwCall.{FwCall}
-use Rattle.psci_fw_spec.specs.declared.call.FwCall.TheVariants.{Smc, Take}
+use Rattle.psci_fw_spec.specs.declared.call.FwCall.TheVariants.{Enter, Smc, Take}
 use Rattle.psci_fw_spec.specs.declared.fault.FwFault.{FwFault}
 use Rattle.psci_fw_spec.specs.declared.outcome.Act.{Act}
 use Rattle.psci_fw_spec.specs.declared.outcome.Act.TheVariants as acts
@@ -31,23 +44,13 @@ use Rattle.psci_fw_spec.specs.declared.reply.FwReply.{FwReply}
 use Rattle.psci_fw_spec.specs.declared.reply.FwReply.TheVariants as replies
 use Rattle.psci_fw_spec.specs.declared.status.Status.{Status}
 use Rattle.psci_fw_spec.specs.declared.status.Status.TheVariants.{Off}
-use Rattle.psci_fw_spec.specs.After.{after}
-use Rattle.psci_fw_spec.specs.Answer.{answer, reply_or}
-use Rattle.psci_fw_spec.specs.Calls.{call_fault, outcome_of}
-use Rattle.psci_fw_spec.specs.CpuOn.{start_outcome, target_of}
-use Rattle.psci_fw_spec.specs.Effects.{effect_of, function_effect, sent_effect}
-use Rattle.psci_fw_spec.specs.Exchange.{FwExchange}
-use Rattle.psci_fw_spec.specs.History.{values_of}
-use Rattle.psci_fw_spec.specs.Legal.{IsLegal}
-use Rattle.psci_fw_spec.specs.Lives.{start_of_life}
-use Rattle.psci_fw_spec.specs.Outcomes.{stops}
-use Rattle.psci_fw_spec.specs.Statuses.{added, statuses}
-use Rattle.psci_fw_spec.specs.Values.{Values}
-use Rattle.psci_status.specs.Lists.{row}
-use Rattle.psci_status.specs.Naming.{is_named, names, slot_beside}
-use Rattle.psci_status.specs.Polled.{IsNext, IsPast, IsPolled, IsWrittenFrom, PolledView}
-use Rattle.psci_status.specs.Writing.{most_statuses, written_then}
-use Rattle.psci_status.proofs.Past.{More, added_nothing, names_return, names_stop, nothing_more}
+use Rattle.psci_fw_spec.specs.psci_messages.Claim.{claims_of}
+use Rattle.psci_fw_spec.specs.psci_messages.View.{generation, is_all_away, is_idle, least_ask}
+use Rattle.psci_fw.specs.Reactions.{FirmwareValue, number_of, seen, slot_number}
+use Rattle.psci_status.specs.Lists.{is_named, IsNext, IsPast, IsPolled, IsWrittenFrom}
+use Rattle.psci_status.specs.Lists.{most_statuses, names, PolledView, row, slot_beside}
+use Rattle.psci_status.specs.Lists.{written_then}
+use Rattle.psci_status.proofs.Past.{added_nothing, More, names_return, names_stop, nothing_more}
 use Rattle.psci_status.proofs.Past.{past_more}
 
 -- before any call
@@ -280,3 +283,79 @@ module _ {f : FirmwareValue} (f' : FirmwareValue) {table : TableId} {rows : List
       others_stay f' c (Smc regs) (replies.Out o) asked more is left same_life
       (λ k not. names_by_slot f.board f'.board (seen f) c k regs o slot answered there
       (rw beside at not)) core small other refl
+
+-- Calls -------------------------------------------------------------------------------------------
+-- Calls for worked examples, on a board of two clusters of two cores: each is answered with the one
+-- legal reply.
+
+-- what an example unfolds to compute answers, values and statuses
+unfoldable pub computing : Unit {0}
+unfolding answer values_of after outcome_of enter_outcome target_of core_of node_of off_parts
+    suspend_parts view up claims_of least_ask generation is_all_away is_idle outstanding
+    last_message changes_since statuses
+computing = tt
+
+abbrev pub board : BoardValue
+board = record {
+  levels = (2 ∷ 2 ∷ []) ∷ (2 ∷ []) ∷ [];
+  ranges = record { start = 0x40000000; end = 0x40100000 } ∷ [];
+  boot = 0x40000000;
+  starts = 9;
+  lives = 3;
+  format = Original;
+}
+
+-- a call of a core
+pub record Step : Type 0 where
+  pub core : ℕ
+  pub call : FwCall
+
+-- a function that a core asks for: its word, and an affinity word
+abbrev pub asks : ℕ → ℕ → ℕ → Step
+asks c word target =
+    record { core = c; call = Smc (record { x0 = word; x1 = target; x2 = 0x40001000; x3 = 7 }) }
+
+-- a core asks another one on
+abbrev pub on : ℕ → ℕ → Step
+on c target = asks c 0xc4000003 target
+
+-- CPU_OFF and SYSTEM_OFF by a core
+abbrev pub off : ℕ → Step
+off c = asks c 0x84000002 0
+
+abbrev pub system_off : ℕ → Step
+system_off c = asks c 0x84000008 0
+
+-- a core enters: cause, life, number of its start
+abbrev pub enters : Cause → ℕ → ℕ → ℕ → Step
+enters cause c life number = record {
+  core = c;
+  call = Enter (record { life = life; number = number; cause = cause });
+}
+
+-- the boot core begins a life
+abbrev pub boots : ℕ → Step
+boots life = enters Boot 0 life 1
+
+-- an acknowledgement of this kind: core, life, number, and that one part was applied
+abbrev pub takes : Kind → ℕ → ℕ → ℕ → Step
+takes kind c life number = record {
+  core = 0;
+  call = Take (record {
+    kind = kind;
+    core = record { number = c };
+    life = life;
+    number = number;
+    applied = 1;
+    stale = false;
+  });
+}
+
+-- the legal history of these calls after a history, the first call first
+abbrev pub with_calls : List FwExchange → List Step → List FwExchange
+with_calls h [] = h
+with_calls h (s ∷ ss) = with_calls
+    (record { core = s.core; call = s.call; reply = legal_reply board h s.core s.call } ∷ h) ss
+
+abbrev pub history : List Step → List FwExchange
+history steps = with_calls [] steps

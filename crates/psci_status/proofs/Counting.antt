@@ -1,32 +1,28 @@
 -- What a status weighs, and so how many statuses a core can have had: a status is weighed by the
 -- life and the known start that it came with. What a call does to a core leaves its status, or
 -- gives it one that weighs more; and each status that is added weighs more than the last one.
-use Rattle.std.proofs.Common.{◌≡◌, ◌≢◌, inl, inr, ℕ, ◌+◌, ◌*◌, ◌<◌, ◌≤◌, List, [], ◌∷◌, length}
-use Rattle.std.proofs.Common.{Bool, true, false, refl, sym, ap, subst, arith}
+use Rattle.std.proofs.Common.{◌*◌, ◌+◌, ◌<◌, ◌∷◌, ◌≡◌, ◌≢◌, ◌≤◌, [], ap, arith, Bool, false, inl}
+use Rattle.std.proofs.Common.{inr, length, List, refl, subst, sym, true, ℕ}
 use Rattle.std.specs.Prelude.{◌⊎◌, ◌==◌, ◌&&◌, not, if◌then◌else◌}
 use Rattle.std.proofs.lemmas.Bool.{and_parts, cond_both, eqb-false, eqb-true}
 use Rattle.psci_board.specs.Board.{BoardValue, IsBoard}
-use Rattle.psci_fw_laws.specs.Allowed.{IsAllowed, IsEntering}
-use Rattle.psci_fw_laws.specs.Within.{AreWithin}
+use Rattle.psci_fw_laws.specs.Renumbered.{IsAllowed, IsEntering}
+use Rattle.psci_fw_laws.specs.Messages.{AreWithin}
 use Rattle.psci_messages.specs.declared.start.Start as starts
 use Rattle.psci_fw_spec.specs.declared.status.Status.{Status}
 use Rattle.psci_fw_spec.specs.declared.status.Status.TheVariants.{On, Off, Pending}
-use Rattle.psci_fw_spec.specs.After.{change}
-use Rattle.psci_fw_spec.specs.Changes.{target, turns_off}
-use Rattle.psci_fw_spec.specs.Effects.{Effect, AsksOn}
-use Rattle.psci_fw_spec.specs.Effects.{Enters, Parks, StopsAtOnce, Acknowledges}
-use Rattle.psci_fw_spec.specs.Exchange.{FwExchange, effect}
+use Rattle.psci_fw_spec.specs.Effects.{Acknowledges, AsksOn, change, Effect, effect, Enters}
+use Rattle.psci_fw_spec.specs.Effects.{FwExchange, Parks, sent_messages, StopsAtOnce}
+use Rattle.psci_fw_spec.specs.Changes.{first_status, in_life, start_of_life, target, turns_off}
 use Rattle.psci_fw_spec.specs.History.{known, life, status, values_of}
 use Rattle.psci_fw_spec.specs.Invariant.{AreValues, agrees}
 use Rattle.psci_fw_spec.specs.Legal.{IsLegal}
-use Rattle.psci_fw_spec.specs.Lives.{first_status, in_life, start_of_life}
 use Rattle.psci_fw_spec.specs.Phases.{Phase, is_away}
 use Rattle.psci_fw_spec.specs.Phases as phases
-use Rattle.psci_fw_spec.specs.Sent.{sent_messages}
 use Rattle.psci_fw_spec.specs.Statuses.{added, statuses}
 use Rattle.psci_fw_spec.specs.Values.{Values, updated}
-use Rattle.psci_status.specs.Writing.{most_statuses, one_more}
-use Rattle.psci_status.proofs.Last.{added_last, length_added, same_code, statuses_more}
+use Rattle.psci_status.specs.Lists.{most_statuses, one_more}
+use Rattle.psci_status.proofs.Past.{added_last, length_added, same_code, statuses_more}
 
 -- in one start a core is ON, goes OFF, and is asked on again, in this order
 abbrev rank : Status → ℕ

@@ -1,12 +1,9 @@
 pub mod CallSteps
-pub mod Calls
 pub mod Counting
-pub mod Last
-pub mod ListRows
-pub mod Lists
 pub mod Past
+pub mod ListRows
+pub mod Steps
 mod PolledRows
 pub mod RuleRows
 mod SeatRows
-pub mod Steps
 pub mod Told

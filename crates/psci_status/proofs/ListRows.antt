@@ -1,16 +1,12 @@
 -- Worked examples of what was written and what was seen of a core, which was OFF, ON_PENDING and
 -- ON; and of what a poll has read, and answers.
-use Rattle.std.proofs.Common.{◌≡◌, inl, inr, ℕ, ◌+◌, ◌*◌, ◌<◌, List, [], ◌∷◌, map, refl, ap, arith}
-use Rattle.std.proofs.Common.{pos, negsuc, length, None, Some}
+use Rattle.std.proofs.Common.{◌*◌, ◌+◌, ◌∷◌, [], arith, List}
+use Rattle.std.proofs.Common.{map, negsuc, None, pos, refl, Some}
 use Rattle.psci_fw_spec.specs.declared.status.Status.{Status}
 use Rattle.psci_fw_spec.specs.declared.status.Status.TheVariants.{On, Off, Pending}
-use Rattle.psci_status.specs.Lists.{IsLast, IsWord, Item, Stands, Within, gain, gain_from, gains}
-use Rattle.psci_status.specs.Lists.{item_of, newest, row}
+use Rattle.psci_status.specs.Lists.{gain, gain_from, gains, IsLast, IsLoaded, IsPolledAs, IsWord}
+use Rattle.psci_status.specs.Lists.{Item, item_of, newest, row, Stands, Within}
 use Rattle.psci_abi.proofs.Tables.{◌⇒◌, Gives}
-use Rattle.std.proofs.lemmas.Bool.{eqb-false}
-use Rattle.psci_abi.specs.declared.code.Code.{Code}
-use Rattle.psci_fw_spec.specs.AffinityInfo.{status_code}
-use Rattle.psci_status.specs.Polls.{IsLoaded, IsPolledAs}
 
 abbrev written : List Status
 written = On ∷ Pending ∷ Off ∷ []
@@ -28,42 +24,26 @@ holds_last : IsWord written 8
 holds_last = refl
 
 holds_another : ¬ (IsWord written 4) × ¬ (IsWord written 9) × ¬ (IsWord [] 1)
-holds_another = (eqb-false 4 8 refl, eqb-false 9 8 refl, λ h. h)
+holds_another = search arith
 
--- items that were written
-stand : Stands written (0, Off) × Stands written (1, Pending) × Stands written (2, On)
-stand = (inr (inr (inl (refl, refl))), inr (inl (refl, refl)), inl (refl, refl))
-
--- another status under the serial of ON_PENDING
-other_status : Stands written (1, Off) → ⊥
-other_status (inl is) = eqb-false 1 2 refl (is.0)
-other_status (inr (inl is)) = let e : Off ≡ Pending = is.1 in cc
-other_status (inr (inr (inl is))) = eqb-false 1 0 refl (is.0)
-other_status (inr (inr (inr other))) = other
-
--- what was seen: serials that rise, and items that were written
-some_seen : Within written ((2, On) ∷ (0, Off) ∷ [])
-some_seen = (stand.2, omega arith, (stand.0, tt, tt))
-
-seen_otherwise :
-    ¬ (Within written ((1, Pending) ∷ (1, Pending) ∷ []))
+within_or_not :
+    -- items that were written
+    Stands written (0, Off)
+    × Stands written (1, Pending)
+    × Stands written (2, On)
+    -- another status under the serial of ON_PENDING
+    × ¬ (Stands written (1, Off))
+    -- what was seen: serials that rise, and items that were written
+    × Within written ((2, On) ∷ (0, Off) ∷ [])
+    × ¬ (Within written ((1, Pending) ∷ (1, Pending) ∷ []))
     × ¬ (Within written ((0, Off) ∷ (1, Pending) ∷ []))
-seen_otherwise = (
-  λ h. let e : 1 < 1 = h.1 in omega arith,
-  λ h. let e : 1 < 0 = h.1 in omega arith,
-)
+within_or_not = search arith
 
--- the last that was written is the last that was seen, or an earlier one is
-last_seen : IsLast written ((2, On) ∷ (0, Off) ∷ [])
-last_seen = ((0, Off) ∷ [], refl)
-
--- the serial of the last item
-abbrev serial : List Item → ℕ
-serial [] = 9
-serial (item ∷ items) = item.0
-
-earlier_seen : IsLast written ((1, Pending) ∷ (0, Off) ∷ []) → ⊥
-earlier_seen h = eqb-false 1 2 refl (ap serial h.1)
+last_or_not :
+    -- the last that was written is the last that was seen, or an earlier one is
+    IsLast written ((2, On) ∷ (0, Off) ∷ [])
+    × ¬ (IsLast written ((1, Pending) ∷ (0, Off) ∷ []))
+last_or_not = search arith
 
 abbrev gain_of : Item × List Item → List Item
 gain_of (item, items) = gain item items
@@ -127,11 +107,6 @@ is_loaded = (
   (5, refl, ([], refl), (tt, tt)),
 )
 
--- the number of the last status
-abbrev last_code : List Item → ℕ
-last_code [] = 9
-last_code (i ∷ is) = status_code i.1
-
 loaded_otherwise :
     -- one of another core
     ¬ (IsLoaded seen (((1, On) ∷ (0, Off) ∷ []) ∷ ((1, On) ∷ (0, Off) ∷ []) ∷ []) 0 On)
@@ -141,13 +116,7 @@ loaded_otherwise :
     (((1, Pending) ∷ []) ∷ ((0, Off) ∷ []) ∷ []) 1 Pending)
     × ¬ (IsLoaded (((1, Off) ∷ (3, On) ∷ []) ∷ []) (((1, Off) ∷ (3, On) ∷ []) ∷ []) 0 Off)
     × ¬ (IsLoaded ([] ∷ ((1, Off) ∷ (3, On) ∷ []) ∷ []) ([] ∷ ((1, Off) ∷ (3, On) ∷ []) ∷ []) 1 Off)
-loaded_otherwise = (
-  λ h. eqb-false 2 1 refl (ap (λ (s : List (List Item)). length (row s 1)) h.1),
-  λ h. eqb-false 1 0 refl (ap last_code h.2.1),
-  λ h. eqb-false 1 2 refl (ap last_code h.2.1),
-  λ h. let e : 3 < 1 = h.3.0 in omega arith,
-  λ h. let e : 3 < 1 = h.3.0 in omega arith,
-)
+loaded_otherwise = search arith
 
 -- What a poll answers ----------------------------------------------------------------------------
 
@@ -162,31 +131,16 @@ is_polled = (
   (Off, (0, refl, ([], refl), (tt, tt)), refl),
 )
 
--- the number of a status, or 9
-abbrev status_in : Code → ℕ
-status_in code = elim code.0 [ pos n ↦ n | negsuc n ↦ 9 ]
-
--- another status is answered than was read
-off_instead_of_pending : IsPolledAs (Some (record { number = 1 })) seen
-    (((0, Off) ∷ []) ∷ ((1, Pending) ∷ (0, Off) ∷ []) ∷ []) (record { 0 = pos 1 }) → ⊥
-off_instead_of_pending h =
-    let e : 2 ≡ status_code h.0 = ap last_code h.1.2.1 in
-    let f : 1 ≡ status_code h.0 = ap status_in h.2 in omega arith
-
-abbrev absolute : Code → ℕ
-absolute code = elim code.0 [ pos n ↦ n | negsuc n ↦ n ]
-
--- the word names no core: nothing is read, and no status is answered
-nobody : IsPolledAs None seen seen (record { 0 = negsuc 1 })
-nobody = (refl, refl)
-
-nobody_is_polled :
-    ¬ (IsPolledAs None seen (((1, Pending) ∷ (0, Off) ∷ []) ∷ ((0, Off) ∷ []) ∷ [])
-    (record { 0 = negsuc 1 }))
+polled_or_not :
+    -- another status is answered than was read
+    ¬ (IsPolledAs (Some (record { number = 1 })) seen (((0, Off) ∷ []) ∷ ((1, Pending) ∷ (0, Off) ∷
+    []) ∷ []) (record { 0 = pos 1 }))
+    -- the word names no core: nothing is read, and no status is answered
+    × IsPolledAs None seen seen (record { 0 = negsuc 1 })
+    × ¬ (IsPolledAs None seen (((1, Pending) ∷ (0, Off) ∷ []) ∷ ((0, Off) ∷ []) ∷ []) (record {
+      0 =
+          negsuc 1;
+    }))
     × ¬ (IsPolledAs None seen seen (record { 0 = pos 1 }))
     × ¬ (IsPolledAs None seen seen (record { 0 = negsuc 2 }))
-nobody_is_polled = (
-  λ h. eqb-false 2 1 refl (ap (λ (s : List (List Item)). length (row s 0)) h.1),
-  λ h. eqb-false 1 9 refl (ap status_in h.0),
-  λ h. eqb-false 2 1 refl (ap absolute h.0),
-)
+polled_or_not = search arith

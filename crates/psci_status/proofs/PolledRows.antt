@@ -1,29 +1,22 @@
 -- Worked examples: a past of values and of what was written, what the type of a polled firmware
 -- keeps, and what a call has written.
-use Rattle.std.proofs.Common.{◌≡◌, ℕ, zero, suc, ◌<◌, pos, List, [], ◌∷◌, length, refl, ap, subst}
-use Rattle.std.proofs.Common.{arith, None, eqb, false, sym, ◌∙◌}
+use Rattle.std.proofs.Common.{◌<◌, ◌∷◌, ◌≡◌, [], ap, arith, List, None}
+use Rattle.std.proofs.Common.{pos, refl, subst, sym, ℕ}
 use Rattle.psci_messages.specs.declared.start.Cause.TheVariants as causes
 use Rattle.psci_fw_spec.specs.declared.call.FwCall.TheVariants.{Smc}
 use Rattle.psci_fw_spec.specs.declared.outcome.Act.TheVariants as acts
-use Rattle.psci_fw_spec.specs.declared.reply.FwReply.{FwReply}
-use Rattle.psci_fw_spec.specs.declared.reply.FwReply.TheVariants.{Out, Taken, Fault}
+use Rattle.psci_fw_spec.specs.declared.reply.FwReply.TheVariants.{Out}
 use Rattle.psci_fw_spec.specs.declared.status.Status.{Status}
 use Rattle.psci_fw_spec.specs.declared.status.Status.TheVariants.{Off, On, Pending}
-use Rattle.psci_fw_spec.specs.AffinityInfo.{status_code}
-use Rattle.psci_fw_spec.specs.Exchange.{FwExchange}
+use Rattle.psci_fw_spec.specs.Effects.{FwExchange}
 use Rattle.psci_fw_spec.specs.History.{values_of}
-use Rattle.psci_fw_spec.specs.Legal.{IsLegal}
-use Rattle.psci_fw_spec.specs.Statuses.{statuses}
 use Rattle.psci_fw_spec.specs.Values.{Values}
-use Rattle.psci_status.specs.Lists.{row}
-use Rattle.psci_status.specs.Polled.{IsPast, IsNext, IsPolled, IsWrittenFrom, PolledView}
-use Rattle.psci_status.proofs.Calls.{Step, board, boots, computing, enters, history, on}
-use Rattle.std.proofs.lemmas.Bool.{eqb-false}
+use Rattle.psci_status.specs.Lists.{IsNext, IsPast, IsPolled, IsWrittenFrom, PolledView}
+use Rattle.psci_status.proofs.CallSteps.{Step, board, boots, computing, enters, history, on}
 use Rattle.atomic_table.specs.Seated.{TableId}
 use Rattle.psci_board.specs.Board.{BoardValue, IsBoard, cores}
-use Rattle.psci_fw.specs.Seen.{FirmwareValue, seen}
+use Rattle.psci_fw.specs.Reactions.{FirmwareValue, seen}
 use Rattle.psci_fw_spec.specs.declared.call.FwCall.{FwCall}
-use Rattle.psci_status.specs.Writing.{written_then}
 
 -- The values after some calls, and what was written of each core ---------------------------------
 
@@ -71,11 +64,7 @@ anew_rows = (Pending ∷ On ∷ Pending ∷ Off ∷ []) ∷ (Off ∷ []) ∷ (Of
 
 -- what holds of each of the four cores
 pub of_four : (P : ℕ → Type 0) → P 0 → P 1 → P 2 → P 3 → (core : ℕ) → core < 4 → P core
-of_four P a b c d zero h = a
-of_four P a b c d (suc zero) h = b
-of_four P a b c d (suc (suc zero)) h = c
-of_four P a b c d (suc (suc (suc zero))) h = d
-of_four P a b c d (suc (suc (suc (suc core)))) h = absurd (omega (arith, h))
+of_four = search arith
 
 abbrev pub past_of_both : IsPast board (values both) both_rows
 unfolding computing
@@ -88,12 +77,7 @@ past_of_both = record {
 
 past_in_life_2 : IsPast board (values anew) anew_rows
 unfolding computing
-past_in_life_2 = record {
-  history = history anew;
-  legal = (refl, (refl, (refl, (refl, tt))));
-  values = refl;
-  written = of_four _ refl refl refl refl;
-}
+past_in_life_2 = search arith
 
 -- an outcome before any core has entered, where a refusal is legal
 abbrev early : FwExchange
@@ -103,49 +87,27 @@ early = record {
   reply = Out (record { act = acts.Return (record { 0 = pos 0x10001 }); message = None });
 }
 
-abbrev is_out : FwReply → ℕ
-is_out (Out outcome) = 1
-is_out (Taken taken) = 2
-is_out (Fault fault) = 3
-
 illegal_past : (v : Values) (rows : Rows) (p : IsPast board v rows) → p.history ≡ early ∷ [] → ⊥
 unfolding computing
-illegal_past v rows p is =
-    let l : IsLegal board (early ∷ []) =
-    subst (λ (h : List FwExchange). IsLegal board h) is p.legal in
-    eqb-false 1 3 refl (ap is_out l.0)
+illegal_past = search arith
 
 -- the values are of another life, of another status of core 3
 other_life : (v : Values) (rows : Rows) (p : IsPast board v rows) → p.history ≡ history booted
     → v.life ≡ 2 → ⊥
 unfolding computing
-other_life v rows p is two =
-    eqb-false 2 1 refl (sym two ∙ ap (λ (u : Values). u.life) p.values
-    ∙ ap (λ (h : List FwExchange). (values_of board h).life) is)
+other_life = search arith
 
 other_status : (v : Values) (rows : Rows) (p : IsPast board v rows) → p.history ≡ history both
     → v.status 3 ≡ Off → ⊥
 unfolding computing
-other_status v rows p is off =
-    eqb-false 1 0 refl (ap status_code (sym off)
-    ∙ ap (λ (u : Values). status_code (u.status 3)) p.values
-    ∙ ap (λ (h : List FwExchange). status_code ((values_of board h).status 3)) is)
-
--- other numbers of statuses than were written
-not_past : (v : Values) (rows : Rows) (steps : List Step) (core : ℕ) (p : IsPast board v rows)
-    → core < 4 → eqb (length (row rows core)) (length (statuses board (history steps) core)) ≡ false
-    → p.history ≡ history steps → ⊥
-unfolding computing
-not_past v rows steps core p small differ is = eqb-false _ _ differ
-    (ap length (p.written core small)
-    ∙ ap (λ (h : List FwExchange). length (statuses board h core)) is)
+other_status = search arith
 
 -- nothing is written of core 3
 core_3_is_not_written : (v : Values)
     → (p : IsPast board v ((On ∷ Pending ∷ Off ∷ []) ∷ (Off ∷ []) ∷ (Off ∷ []) ∷ []))
     → p.history ≡ history booted → ⊥
 unfolding computing
-core_3_is_not_written v p is = not_past v _ booted 3 p (omega arith) refl is
+core_3_is_not_written = search arith
 
 -- What the type keeps ----------------------------------------------------------------------------
 
@@ -171,14 +133,13 @@ polled f good is was = record {
 }
 
 bad_board : (f : FirmwareValue) → f.board.starts ≡ 0 → IsPolled f (table 4) both_rows 4 → ⊥
-bad_board f none p =
-    let some : 0 < f.board.starts = p.board.some_starts in omega (arith, none, some)
+bad_board = search arith
 
 a_word_is_missing : (f : FirmwareValue) → f.board ≡ board → IsPolled f (table 3) both_rows 4 → ⊥
-a_word_is_missing f is p = eqb-false 3 4 refl (p.words ∙ ap cores is)
+a_word_is_missing = search arith
 
 a_core_is_not_counted : (f : FirmwareValue) → f.board ≡ board → IsPolled f (table 4) both_rows 3 → ⊥
-a_core_is_not_counted f is p = eqb-false 3 4 refl (p.count ∙ ap cores is)
+a_core_is_not_counted = search arith
 
 -- What a call has written ------------------------------------------------------------------------
 
@@ -190,39 +151,10 @@ record Wrote (steps steps' : List Step) (rows rows' : Rows) : Type 0 where
   so : (f f' : FirmwareValue) → f.board ≡ board → seen f ≡ values steps → seen f' ≡ values steps'
       → IsWrittenFrom (view f rows) (view f' rows')
 
-abbrev Same : List Step → List Step → Rows → Rows → ℕ → Type 0
-Same steps steps' rows rows' core =
-    row rows' core ≡ written_then (values steps).life (values steps') core (row rows core)
-
-wrote : {steps steps' : List Step} {rows rows' : Rows} → Same steps steps' rows rows' 0
-    → Same steps steps' rows rows' 1 → Same steps steps' rows rows' 2
-    → Same steps steps' rows rows' 3 → Wrote steps steps' rows rows'
-wrote {steps = steps} {steps' = steps'} {rows = rows} {rows' = rows'} zeroth first second third =
-    record { so = so }
-  where
-    so : (f f' : FirmwareValue) → f.board ≡ board → seen f ≡ values steps
-        → seen f' ≡ values steps' → IsWrittenFrom (view f rows) (view f' rows')
-    so f f' is was now core small =
-        of_four (Same steps steps' rows rows') zeroth first second third core
-        (subst (λ (b : BoardValue). core < cores b) is small)
-        ∙ ap (λ (u : Values). written_then u.life (values steps') core (row rows core)) (sym was)
-        ∙ ap (λ (u : Values). written_then (seen f).life u core (row rows core)) (sym now)
-
 -- what it was not: by how many statuses of a core there are
 record NotWrote (steps steps' : List Step) (rows rows' : Rows) : Type 0 where
   no : (f f' : FirmwareValue) → f.board ≡ board → seen f ≡ values steps → seen f' ≡ values steps'
       → IsWrittenFrom (view f rows) (view f' rows') → ⊥
-
-not_wrote : {steps steps' : List Step} {rows rows' : Rows} (core : ℕ) → core < 4
-    → eqb (length (row rows' core))
-    (length (written_then (values steps).life (values steps') core (row rows core))) ≡ false
-    → NotWrote steps steps' rows rows'
-not_wrote {steps = steps} {steps' = steps'} {rows = rows} core small differ = record {
-  no = λ f f' is was now h. eqb-false _ _ differ
-      (ap length (h core (subst (λ (b : BoardValue). core < cores b) (sym is) small))
-      ∙ ap (λ (u : Values). length (written_then u.life (seen f') core (row rows core))) was
-      ∙ ap (λ (u : Values). length (written_then (values steps).life u core (row rows core))) now);
-}
 
 -- the first life begins; core 3 is asked on, and enters; life 2 begins; before any life nothing is
 -- written; nothing changes in a life
@@ -230,35 +162,28 @@ is_written : Wrote none booted first_rows booted_rows × Wrote booted asked boot
     × Wrote asked both asked_rows both_rows × Wrote both anew both_rows anew_rows
     × Wrote none none first_rows first_rows × Wrote both both both_rows both_rows
 unfolding computing
-is_written = (
-  wrote refl refl refl refl,
-  wrote refl refl refl refl,
-  wrote refl refl refl refl,
-  wrote refl refl refl refl,
-  wrote refl refl refl refl,
-  wrote refl refl refl refl,
-)
+is_written = search arith
 
 -- the target is forgotten; so is the status at a life's start; so is the new life of core 3, which
 -- was ON
 target_is_forgotten : NotWrote booted asked booted_rows booted_rows
 unfolding computing
-target_is_forgotten = not_wrote 3 (omega arith) refl
+target_is_forgotten = search arith
 
 start_is_forgotten : NotWrote none booted first_rows
     ((On ∷ Off ∷ []) ∷ (Off ∷ []) ∷ (Off ∷ []) ∷ (Off ∷ []) ∷ [])
 unfolding computing
-start_is_forgotten = not_wrote 0 (omega arith) refl
+start_is_forgotten = search arith
 
 new_life_is_forgotten : NotWrote both anew both_rows
     ((Pending ∷ On ∷ Pending ∷ Off ∷ []) ∷ (Off ∷ []) ∷ (Off ∷ []) ∷ (On ∷ Pending ∷ Off ∷ []) ∷ [])
 unfolding computing
-new_life_is_forgotten = not_wrote 3 (omega arith) refl
+new_life_is_forgotten = search arith
 
 other_core_is_written : NotWrote booted asked booted_rows
     ((On ∷ Pending ∷ Off ∷ []) ∷ (Pending ∷ Off ∷ []) ∷ (Off ∷ []) ∷ (Pending ∷ Off ∷ []) ∷ [])
 unfolding computing
-other_core_is_written = not_wrote 1 (omega arith) refl
+other_core_is_written = search arith
 
 -- What a call leaves -----------------------------------------------------------------------------
 
@@ -270,11 +195,9 @@ next_is_not_written f f' c call is was now h = target_is_forgotten.no f f' is wa
 
 next_on_another_board : (f f' : FirmwareValue) (c : ℕ) (call : FwCall) → f.board.starts ≡ 9
     → f'.board.starts ≡ 8 → IsNext (view f booted_rows) c call (view f' booted_rows) → ⊥
-next_on_another_board f f' c call nine eight h =
-    let e : f'.board.starts ≡ f.board.starts = ap (λ (b : BoardValue). b.starts) h.board in
-    omega (arith, nine, eight, e)
+next_on_another_board = search arith
 
 next_over_other_words : (f f' : FirmwareValue) (c : ℕ) (call : FwCall)
     → IsNext (view f booted_rows) c call
     (record { firmware = f'; table = table 5; written = booted_rows }) → ⊥
-next_over_other_words f f' c call h = eqb-false 5 4 refl (ap (λ (t : TableId). t.words) h.table)
+next_over_other_words = search arith

@@ -1,19 +1,19 @@
 -- What a call tells that was not refused: there is a life, and the core that it may change is
 -- one of the board.
-use Rattle.std.proofs.Common.{◌≡◌, ◌≢◌, ℕ, ◌<◌, List, Bool, true, false, refl, sym, ap, ◌∙◌}
-use Rattle.std.proofs.Common.{Option, None, Some, Result, Ok, Err, subst, arith}
+use Rattle.std.proofs.Common.{◌<◌, ◌∙◌, ◌≡◌, ◌≢◌, ap, arith, Bool, Err, false, List, None, Ok}
+use Rattle.std.proofs.Common.{Option, refl, Result, Some, subst, sym, true, ℕ}
 use Rattle.std.specs.Prelude.{◌==◌, ◌&&◌, not, option_map, IfSome}
 use Rattle.std.proofs.lemmas.Bool.{and_parts, cond_both, eqb-true}
 use Rattle.std.proofs.lemmas.Bool.Decides.{nat_tests}
 use Rattle.atomic_table.specs.Seated.{TableId}
 use Rattle.psci_abi.specs.Calls.{request_of}
-use Rattle.psci_abi.specs.declared.code.Code.{Code}
+use Rattle.psci_abi.specs.declared.registers.Code.{Code}
 use Rattle.psci_abi.specs.declared.registers.Regs.{Regs}
 use Rattle.psci_abi.specs.declared.request.Request.{Request}
 use Rattle.psci_abi.specs.declared.request.Request.TheVariants as requests
 use Rattle.psci_board.specs.Board.{BoardValue, IsBoard, cores, may_enter}
-use Rattle.psci_board.specs.declared.node.Core.{Core}
-use Rattle.psci_state.specs.Ask.{is_deep}
+use Rattle.psci_board.specs.declared.draft.Core.{Core}
+use Rattle.psci_state.specs.PowerState.{is_deep}
 use Rattle.psci_state.specs.declared.fault.BadState.{BadState}
 use Rattle.psci_messages.specs.declared.kind.Kind.{Kind}
 use Rattle.psci_messages.specs.declared.kind.Kind.TheVariants as kinds
@@ -24,11 +24,9 @@ use Rattle.psci_messages.specs.declared.taken.Taken.{Taken}
 use Rattle.psci_messages.specs.declared.taken.Taken.TheVariants.{Used, Old}
 use Rattle.psci_messages.specs.Message.{AckValue, MessageValue}
 use Rattle.psci_messages.specs.Slots.{answers, slot_of}
-use Rattle.psci_fw.specs.Reactions.{slot_number}
-use Rattle.psci_fw.specs.Seen.{FirmwareValue, seen}
-use Rattle.psci_fw_laws.specs.Allowed.{IsAllowed, IsAwaited}
-use Rattle.psci_fw_laws.specs.Kept.{Holds}
-use Rattle.psci_fw_laws.specs.Outstanding.{IsOfLife}
+use Rattle.psci_fw.specs.Reactions.{FirmwareValue, seen, slot_number}
+use Rattle.psci_fw_laws.specs.Renumbered.{IsAllowed, IsAwaited}
+use Rattle.psci_fw_laws.specs.Messages.{Holds, IsOfLife}
 use Rattle.psci_fw_spec.specs.declared.call.FwCall.{FwCall}
 use Rattle.psci_fw_spec.specs.declared.call.FwCall.TheVariants.{Smc, Enter, Take}
 use Rattle.psci_fw_spec.specs.declared.fault.FwFault.{FwFault}
@@ -37,20 +35,16 @@ use Rattle.psci_fw_spec.specs.declared.outcome.Act.TheVariants as acts
 use Rattle.psci_fw_spec.specs.declared.outcome.Outcome.{Outcome}
 use Rattle.psci_fw_spec.specs.declared.reply.FwReply.{FwReply}
 use Rattle.psci_fw_spec.specs.declared.reply.FwReply.TheVariants as replies
-use Rattle.psci_fw_spec.specs.Answer.{answer, reply_or}
-use Rattle.psci_fw_spec.specs.Calls.{call_fault, function_outcome, outcome_of}
-use Rattle.psci_fw_spec.specs.CpuSuspend.{ask_named, suspend_answer, suspend_asked}
-use Rattle.psci_fw_spec.specs.Effects.{effect_of, function_effect}
-use Rattle.psci_fw_spec.specs.Entering.{enter_fault, enter_outcome}
-use Rattle.psci_fw_spec.specs.Exchange.{FwExchange}
+use Rattle.psci_fw_spec.specs.Answer.{answer, call_fault, enter_fault, enter_outcome}
+use Rattle.psci_fw_spec.specs.Answer.{function_outcome, outcome_of, reply_or}
+use Rattle.psci_fw_spec.specs.PowerCalls.{all_others, ask_named, is_off_status, suspend_answer}
+use Rattle.psci_fw_spec.specs.PowerCalls.{suspend_asked, system_suspend}
+use Rattle.psci_fw_spec.specs.Effects.{effect_of, function_effect, FwExchange, sent_messages}
 use Rattle.psci_fw_spec.specs.History.{values_of}
 use Rattle.psci_fw_spec.specs.Legal.{IsLegal}
-use Rattle.psci_fw_spec.specs.Sent.{sent_messages}
-use Rattle.psci_fw_spec.specs.SystemCalls.{all_others, is_off_status, system_suspend}
 use Rattle.psci_fw_spec.specs.Values.{Values}
 use Rattle.psci_fw_spec.specs.declared.status.Status.{Status}
-use Rattle.psci_status.specs.Naming.{slot_beside, used_by}
-use Rattle.psci_status.specs.Polled.{IsPolled}
+use Rattle.psci_status.specs.Lists.{IsPolled, slot_beside, used_by}
 use Rattle.psci_status.proofs.CallSteps.{slot_of_start}
 use Rattle.psci_status.proofs.Counting.{Kept}
 

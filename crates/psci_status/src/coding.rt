@@ -1,7 +1,7 @@
 //! A status as a number.
 
 ghost use Rattle.std.specs.Prelude.{◌≡◌, ◌<◌};
-ghost use Rattle.psci_fw_spec.specs.AffinityInfo.{status_code};
+ghost use Rattle.psci_fw_spec.specs.PowerCalls.{status_code};
 ghost use Rattle.psci_status.specs.Lists.{status_of};
 
 use psci_fw_spec::Status;

@@ -2,14 +2,11 @@
 
 ghost use Rattle.std.specs.Prelude.{◌≡◌, ◌≢◌, ◌≤◌, ℕ, false, List, ◌∷◌, length};
 ghost use Rattle.psci_board.specs.Board.{BoardValue, IsBoard};
-ghost use Rattle.psci_fw_spec.specs.Exchange.{FwExchange, effect};
+ghost use Rattle.psci_fw_spec.specs.Effects.{FwExchange, effect};
 ghost use Rattle.psci_fw_spec.specs.History.{life, status};
 ghost use Rattle.psci_fw_spec.specs.Legal.{IsLegal};
 ghost use Rattle.psci_fw_spec.specs.Statuses.{statuses};
-ghost use Rattle.psci_status.specs.Naming.{names};
-ghost use Rattle.psci_status.specs.Writing.{most_statuses};
-
-use psci_fw_laws::{law_invariant, law_kept, law_numbers};
+ghost use Rattle.psci_status.specs.Lists.{most_statuses, names};
 
 /// Where a call leaves the life, the status of every core stays but of the one that the call names:
 /// the target of an accepted CPU_ON, a core that entered and goes on, the core of an
@@ -25,8 +22,4 @@ pub fn law_statuses_stay()
 pub fn law_few_statuses()
     ensures { (b : BoardValue) (h : List FwExchange) (core : ℕ) → IsBoard b → IsLegal b h
         → length (statuses b h core) ≤ most_statuses b }
-{
-    law_invariant();
-    law_kept();
-    law_numbers();
-}
+{}

@@ -3,7 +3,7 @@
 ghost use Rattle.std.specs.Prelude.{◌≡◌};
 ghost use Rattle.psci_board.specs.Board.{core_of, cores};
 ghost use Rattle.psci_status.specs.Seats.{seen, table, table_of_reader};
-ghost use Rattle.psci_status.specs.Polls.{IsPolledAs};
+ghost use Rattle.psci_status.specs.Lists.{IsPolledAs};
 
 use crate::seats::{Reader, StatusWords};
 use psci_board::Board;

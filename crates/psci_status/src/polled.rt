@@ -4,7 +4,6 @@ use crate::seats::{Reader, StatusWords, Writer};
 use psci_board::{Board, Core, Memory};
 use psci_fw::{Firmware, FwFault, Outcome, Reaction, Regs, Start, Taken, law_values};
 use psci_fw_laws::law_kept;
-use psci_fw_spec::{law_caller, law_enters};
 use psci_messages::Ack;
 use std::alloc::Global;
 use std::marker::Model;
@@ -19,7 +18,7 @@ pub struct PolledFirmware {
 }
 
 impl Model for PolledFirmware {
-    ghost use Rattle.psci_status.specs.Polled.{IsPolled, PolledView};
+    ghost use Rattle.psci_status.specs.Lists.{IsPolled, PolledView};
     ghost use Rattle.psci_status.specs.Seats.{table_of_writer, written};
 
     ghost Value = { PolledView };
@@ -34,19 +33,16 @@ impl Model for PolledFirmware {
         IsPolled p.firmware (table_of_writer p.writer) (written p.writer) p.cores };
 }
 
-ghost use Rattle.std.specs.Prelude.{◌≡◌, ℕ, List, [], ◌∷◌, replicate, map};
-ghost use Rattle.std.specs.Prelude.{IfOk, OnErr};
+ghost use Rattle.std.specs.Prelude.{◌∷◌, ◌≡◌, [], IfOk, List, map, OnErr, replicate, ℕ};
 ghost use Rattle.psci_board.specs.Board.{cores};
-ghost use Rattle.psci_fw.specs.Reactions.{IsInItsSlot, reply_in};
-ghost use Rattle.psci_fw.specs.Seen.{seen};
+ghost use Rattle.psci_fw.specs.Reactions.{IsInItsSlot, reply_in, seen};
 ghost use Rattle.psci_fw_spec.specs.declared.call.FwCall.TheVariants as calls;
 ghost use Rattle.psci_fw_spec.specs.declared.reply.FwReply.TheVariants as replies;
 ghost use Rattle.psci_fw_spec.specs.declared.status.Status.TheVariants.{Off};
 ghost use Rattle.psci_fw_spec.specs.Answer.{answer, reply_of};
-ghost use Rattle.psci_fw_spec.specs.Lives.{start_of_life};
-ghost use Rattle.psci_status.specs.Lists.{HasMet, newest};
+ghost use Rattle.psci_fw_spec.specs.Changes.{start_of_life};
+ghost use Rattle.psci_status.specs.Lists.{HasMet, IsNext, IsPast, newest};
 ghost use Rattle.psci_status.specs.Seats.{seen as seen_by, table, table_of_reader};
-ghost use Rattle.psci_status.specs.Polled.{IsNext, IsPast};
 
 use crate::laws::law_few_statuses;
 use crate::writing::{asked_in, life_of, used_in, write_entered, write_known};
@@ -104,7 +100,6 @@ impl PolledFirmware {
     {
         law_values();
         law_few_statuses();
-        law_caller();
         law_kept();
         let PolledFirmware {
             firmware,
@@ -153,7 +148,6 @@ impl PolledFirmware {
     {
         law_values();
         law_few_statuses();
-        law_enters();
         let PolledFirmware {
             firmware,
             writer,

@@ -1,16 +1,16 @@
 //! The status words.
 
-ghost use Rattle.std.specs.Prelude.{◌≡◌, ◌≢◌, ℕ, ◌+◌, ◌*◌, ◌%◌, ◌^◌, ◌<◌, ◌≤◌, List, [], ◌∷◌};
-ghost use Rattle.std.specs.Prelude.{length, slice_set, replicate, map, IfOk, true, false};
+ghost use Rattle.std.specs.Prelude.{◌%◌, ◌*◌, ◌+◌, ◌<◌, ◌^◌, ◌∷◌, ◌≡◌, ◌≢◌, ◌≤◌, [], false, IfOk};
+ghost use Rattle.std.specs.Prelude.{length, List, map, replicate, slice_set, true, ℕ};
 ghost use Rattle.psci_board.specs.Board.{cores};
 ghost use Rattle.psci_fw_spec.specs.declared.status.Status.{Status};
 ghost use Rattle.psci_fw_spec.specs.declared.status.Status.TheVariants.{Off};
-ghost use Rattle.psci_fw_spec.specs.AffinityInfo.{status_code};
+ghost use Rattle.psci_fw_spec.specs.PowerCalls.{status_code};
 ghost use Rattle.psci_fw_spec.specs.Statuses.{added};
-ghost use Rattle.psci_status.specs.Lists.{row, Rises, gain, gains, newest, Within, Begins, IsLast};
-ghost use Rattle.psci_status.specs.Lists.{IsWord, item_of, status_of};
-ghost use Rattle.psci_status.specs.Seats.{AreOf, MayRead, MayWrite, seen, written};
-ghost use Rattle.psci_status.specs.Seats.{table, table_of_reader, table_of_writer};
+ghost use Rattle.psci_status.specs.Lists.{Begins, gain, gains, IsLast, IsWord, item_of, newest};
+ghost use Rattle.psci_status.specs.Lists.{Rises, row, status_of, Within};
+ghost use Rattle.psci_status.specs.Seats.{AreOf, MayRead, MayWrite, seen, table, table_of_reader};
+ghost use Rattle.psci_status.specs.Seats.{table_of_writer, written};
 
 use crate::coding::{number_of, status_of};
 use crate::rule::{Loads, Looks, Notes, Stores};

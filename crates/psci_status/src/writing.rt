@@ -2,13 +2,12 @@
 
 ghost use Rattle.std.specs.Prelude.{◌≡◌, ◌≢◌, ℕ, ◌+◌, ◌<◌, ◌^◌, false, length, IfSome, Some};
 ghost use Rattle.psci_board.specs.Board.{cores};
-ghost use Rattle.psci_fw.specs.Seen.{seen};
-ghost use Rattle.psci_fw_spec.specs.Lives.{first_status};
+ghost use Rattle.psci_fw.specs.Reactions.{seen};
+ghost use Rattle.psci_fw_spec.specs.Changes.{first_status};
 ghost use Rattle.psci_fw_spec.specs.Statuses.{added};
-ghost use Rattle.psci_status.specs.Lists.{row};
+ghost use Rattle.psci_status.specs.Lists.{asked_by, is_named, one_more, row, slot_beside, used_by};
+ghost use Rattle.psci_status.specs.Lists.{written_then};
 ghost use Rattle.psci_status.specs.Seats.{MayWrite, WritesBoard, table, table_of_writer, written};
-ghost use Rattle.psci_status.specs.Naming.{asked_by, is_named, slot_beside, used_by};
-ghost use Rattle.psci_status.specs.Writing.{one_more, written_then};
 
 use crate::seats::{StatusWords, Writer};
 use psci_board::Core;

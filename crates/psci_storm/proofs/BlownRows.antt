@@ -1,6 +1,6 @@
 -- Worked examples of a world that settles after a storm, on a board of one core.
-use Rattle.std.proofs.Common.{◌≡◌, ◌∙◌, ◌<◌, ◌≤◌, ◌++◌, ℕ, zero, suc, List, [], ◌∷◌, true, false}
-use Rattle.std.proofs.Common.{length, refl, ap, sym, subst, arith, length-append, rules}
+use Rattle.std.proofs.Common.{◌++◌, ◌<◌, ◌∙◌, ◌∷◌, ◌≡◌, ◌≤◌, [], ap, arith, false, length}
+use Rattle.std.proofs.Common.{length-append, List, refl, rules, subst, suc, sym, true, zero, ℕ}
 use Rattle.std.proofs.lemmas.List.Sums.{AllPass-from_list_all}
 use Rattle.std.specs.Prelude.{Bool, ◌==◌, drop, if◌then◌else◌, take}
 use Rattle.psci_world.specs.psci_board.Board.{size_below}
@@ -10,13 +10,12 @@ use Rattle.psci_world.specs.declared.settling.Settled.TheVariants.{Halting, Quie
 use Rattle.psci_world.specs.Settles.{ComesToRest}
 use Rattle.psci_world.specs.Settling.{is_halting, settled}
 use Rattle.psci_world.specs.psci_world_spec.declared.event.Event.{Event}
-use Rattle.psci_world.specs.psci_world_spec.declared.event.Event.TheVariants.{Enter, Deliver, Take}
+use Rattle.psci_world.specs.psci_world_spec.declared.event.Event.TheVariants.{Deliver, Enter}
+use Rattle.psci_world.specs.psci_world_spec.declared.event.Event.TheVariants.{Take}
 use Rattle.psci_world.specs.psci_world_spec.declared.said.Record.{Record}
-use Rattle.psci_world.specs.psci_world_spec.Histories.{controller_values, firmware_values}
-use Rattle.psci_world.specs.psci_world_spec.Places.{place}
-use Rattle.psci_world.specs.psci_world_spec.Legal.{IsLegalPast, run_from}
-use Rattle.psci_world.proofs.world_spec.Runs.{stays_legal}
-use Rattle.psci_world.proofs.world_spec.Scripts.{one_core, system_off}
+use Rattle.psci_world.specs.psci_world_spec.Legal.{controller_values, firmware_values}
+use Rattle.psci_world.specs.psci_world_spec.Legal.{IsLegalPast, place, run_from}
+use Rattle.psci_world.proofs.world_spec.Scripts.{one_core, stays_legal, system_off}
 use Rattle.psci_storm.proofs.DrawnRows.{after, asleep, computing, drawn_length, going_off}
 use Rattle.psci_storm.proofs.DrawnRows.{none_drawn, suspend, two_drawn, wrong}
 

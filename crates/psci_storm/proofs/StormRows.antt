@@ -8,8 +8,7 @@ use Rattle.psci_world.specs.declared.settling.Settled.TheVariants.{Quiet}
 use Rattle.psci_world.specs.psci_world_spec.declared.event.Event.{Event}
 use Rattle.psci_world.specs.psci_world_spec.declared.event.Event.TheVariants.{Enter}
 use Rattle.psci_world.specs.psci_world_spec.declared.said.Record.{Record}
-use Rattle.psci_world.proofs.world_spec.Runs.{stays_legal}
-use Rattle.psci_world.proofs.world_spec.Scripts.{one_core}
+use Rattle.psci_world.proofs.world_spec.Scripts.{one_core, stays_legal}
 use Rattle.psci_storm.proofs.BlownRows.{rested, sleeps, wrong_is_not_legal}
 use Rattle.psci_storm.proofs.DrawnRows.{after, computing, wrong}
 

@@ -8,8 +8,7 @@ use Rattle.psci_world.specs.declared.settling.Settled.TheVariants.{Halting, Quie
 use Rattle.psci_world.specs.Settles.{ComesToRest, IsOnTheWay}
 use Rattle.psci_world.specs.psci_world_spec.declared.event.Event.{Event}
 use Rattle.psci_world.specs.psci_world_spec.declared.said.Record.{Record}
-use Rattle.psci_world.specs.psci_world_spec.Histories.{sent}
-use Rattle.psci_world.specs.psci_world_spec.Legal.{IsLegalPast, run_from}
+use Rattle.psci_world.specs.psci_world_spec.Legal.{IsLegalPast, run_from, sent}
 use Rattle.psci_storm.specs.declared.outcome.Storm.{Storm}
 
 -- One past is the other after some events more, each with what is legal to say of it.

@@ -1,11 +1,10 @@
 //! Aimed draws: what is rare, and what several cores have to do together.
 
 use crate::draws::{Draws, Mood};
-use crate::exits::{count_at, is_last_exit};
 use crate::plain::affinity;
-use crate::sight::Sight;
 use crate::states::deepest;
 use psci_abi::Request;
+use psci_abi::words::CPU_OFF;
 use psci_world_spec::{Board, Event, Place};
 
 /// A start limit that a storm may reach.
@@ -206,4 +205,84 @@ impl Draws {
         }
         Event::Wake(u64::from(self.core(sight.board().cores())))
     }
+}
+
+// Events after which no core could call any more.
+
+/// How many cores are at this place.
+pub fn count_at<S: Sight>(sight: &S, place: Place) -> usize {
+    (0..sight.board().cores())
+        .filter(|number| sight.place(*number) == Some(place))
+        .count()
+}
+
+/// Whether a core other than this one runs, or was asked on and will.
+fn goes_on_without<S: Sight>(sight: &S, number: u16) -> bool {
+    (0..sight.board().cores()).any(|other| {
+        let is_running = sight.place(other) == Some(Place::Running);
+        other != number && (is_running || sight.is_pending(other))
+    })
+}
+
+/// Whether this event may leave no core that runs, is asked on or can be woken.
+///
+/// A core that calls CPU_OFF goes off. So does a core that is reset, unless it was asked on, and it
+/// was not asked on where it runs; one that sleeps lightly does not go on after a reset either. In
+/// a life that halts, and before a core has entered, nothing is lost.
+pub fn is_last_exit<S: Sight>(sight: &S, event: Event) -> bool {
+    if sight.is_halting() || !sight.is_entered() {
+        return false;
+    }
+    let number = match event {
+        Event::Call(core, regs) if regs.x0 % (1 << 32) == u64::from(CPU_OFF) => core,
+        Event::Reset(core) => core,
+        _ => return false,
+    };
+    let Ok(number) = u16::try_from(number) else {
+        return false;
+    };
+    !sight.is_pending(number) && !goes_on_without(sight, number)
+}
+
+impl Draws {
+    /// Whether the present life may end: another one follows, or the last one may end now.
+    pub fn may_lose_life<S: Sight>(&self, sight: &S) -> bool {
+        let is_last = sight.life() == Some(sight.board().life_limit());
+        !is_last || self.may_end_storm()
+    }
+}
+
+// What the draws see of a world.
+
+/// What the draws see of a world.
+pub trait Sight {
+    /// The board.
+    fn board(&self) -> &Board;
+
+    /// Where the core of this number is, if there is such a core.
+    fn place(&self, number: u16) -> Option<Place>;
+
+    /// Whether the core of this number was asked on and has not entered since.
+    fn is_pending(&self, number: u16) -> bool;
+
+    /// Whether the core of this number is stopped, and ON to the firmware: it sleeps, or goes off.
+    fn is_asleep(&self, number: u16) -> bool;
+
+    /// How often the core of this number was started in this life.
+    fn starts(&self, number: u16) -> u32;
+
+    /// The present life, counted from 1; None once the system is off.
+    fn life(&self) -> Option<u32>;
+
+    /// Whether a core has entered in this life.
+    fn is_entered(&self) -> bool;
+
+    /// Whether SYSTEM_OFF, SYSTEM_RESET or SYSTEM_RESET2 was accepted in this life.
+    fn is_halting(&self) -> bool;
+
+    /// How many messages were sent.
+    fn messages(&self) -> usize;
+
+    /// How many acknowledgements were made.
+    fn acks(&self) -> usize;
 }

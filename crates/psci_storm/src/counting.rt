@@ -1,7 +1,7 @@
 //! How many records are of a tally.
 
+use crate::answer::Tally;
 use crate::table::TALLIES;
-use crate::tally::Tally;
 use psci_world_spec::Record;
 use std::io::{self, Write};
 

@@ -10,28 +10,17 @@
 
 mod aims;
 mod answer;
-mod asked;
-mod blowing;
 mod counting;
-mod drawing;
 mod draws;
-mod exits;
 mod outcome;
 mod plain;
-mod seen;
-mod sight;
 mod states;
 mod table;
-mod tally;
-mod text;
 
-pub use answer::Answer;
-pub use asked::Asked;
-pub use blowing::{blow, storm, storm_world};
+pub use answer::{Answer, Asked, Tally};
 pub use counting::{count, write_counts};
-pub use draws::Draws;
+pub use draws::{Draws, blow, storm, storm_world};
 pub use outcome::{Storm, StormedWorld};
 pub use plain::affinity;
 pub use psci_world::Settled;
 pub use table::TALLIES;
-pub use tally::Tally;

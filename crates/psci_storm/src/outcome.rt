@@ -1,7 +1,7 @@
 //! What became of a storm.
 
 ghost use Rattle.std.specs.Prelude.{◌≡◌, length};
-ghost use Rattle.psci_world.specs.psci_world_spec.Histories.{sent};
+ghost use Rattle.psci_world.specs.psci_world_spec.Legal.{sent};
 
 use psci_world::{Settled, World};
 

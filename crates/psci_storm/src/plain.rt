@@ -1,7 +1,7 @@
 //! Plain draws: any call, with arguments that are good or bad, and any other event.
 
+use crate::aims::Sight;
 use crate::draws::Draws;
-use crate::sight::Sight;
 use crate::table::DRAWN;
 use psci_abi::words::{
     CPU_ON_64, CPU_SUSPEND_32, CPU_SUSPEND_64, MIGRATE, PSCI_FEATURES, SYSTEM_RESET2_32,

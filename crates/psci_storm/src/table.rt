@@ -4,8 +4,8 @@
 use crate::answer::Answer::{
     Absent, Acked, Enter, Ignored, Old, Resume, Return, Started, Stop, Used,
 };
-use crate::asked::Asked::{self, Call};
-use crate::tally::Tally;
+use crate::answer::Asked::{self, Call};
+use crate::answer::Tally;
 use psci_abi::Function::{
     self, AffinityInfo, CpuOff, CpuOn, CpuSuspend, Features, MigrateInfoType, NodeHwState,
     SetSuspendMode, SystemOff, SystemReset, SystemReset2, SystemSuspend, Version,

@@ -1,6 +1,5 @@
 //! Boards, and runs on them.
 
-use crate::lossy::{Travel, travelled};
 use crate::meeting::Meeting;
 use crate::serving::serve;
 use psci_bench::{BenchFault, Gate, OpenGate, Sighting, Threaded, calls_of, threads};
@@ -74,32 +73,6 @@ fn are_serials(seen: &[Sighting]) -> bool {
     })
 }
 
-/// Whether runs of so many seeds were each audited whole, each core made so many calls and saw
-/// something else at every fourth of them, and frames were lost, came again and overtook others at
-/// least so often in all of them.
-pub(crate) fn travels<R: Threads + Wait + Sync>(
-    rt: &R,
-    alloc: Global,
-    text: &str,
-    seeds: u64,
-    count: u64,
-    floor: Travel,
-) -> Result<bool, BenchFault> {
-    let cores = board_of(alloc, text)?.cores();
-    let mut all = Travel::none();
-    for seed in 0..seeds {
-        let run = ran(rt, alloc, text, seed.wrapping_add(1), count, &OpenGate)?;
-        if !is_whole(&run) || !is_done(&run, cores, count) || !has_seen(&run, count / 4) {
-            return Ok(false);
-        }
-        let Ok(travel) = travelled(alloc, &run.trace) else {
-            return Err(BenchFault::Memory);
-        };
-        all = all.with(travel);
-    }
-    Ok(all.is_above(floor))
-}
-
 /// Whether all entries of a run were audited.
 fn is_whole(run: &Threaded) -> bool {
     let firmware = run.trace.firmware.len() as u64;
@@ -107,17 +80,18 @@ fn is_whole(run: &Threaded) -> bool {
     run.audited == firmware.wrapping_add(controller)
 }
 
-/// Whether all entries of a run were audited, and each core has made its calls.
+/// Whether all entries of a run were audited, each core has made its calls, and has seen so often
+/// something else than just before.
 pub(crate) fn is_audited<R: Threads + Wait + Sync>(
     rt: &R,
     alloc: Global,
     text: &str,
-    seed: u64,
     count: u64,
+    floor: u64,
 ) -> Result<bool, BenchFault> {
     let cores = board_of(alloc, text)?.cores();
-    let run = ran(rt, alloc, text, seed, count, &OpenGate)?;
-    Ok(is_whole(&run) && is_done(&run, cores, count))
+    let run = ran(rt, alloc, text, 1, count, &OpenGate)?;
+    Ok(is_whole(&run) && is_done(&run, cores, count) && has_seen(&run, floor))
 }
 
 /// Whether cores 0 and 1 come to meet, each in its second call.

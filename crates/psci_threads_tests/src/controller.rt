@@ -1,4 +1,4 @@
-//! Stories of a power controller that threads share.
+//! The story of a power controller that threads share.
 
 ghost use Rattle.std.specs.Prelude.{◌≡◌, ◌<◌};
 ghost use Rattle.psci_board.specs.Board.{cores};
@@ -13,8 +13,6 @@ use std::alloc::Global;
 use std::marker::Brand;
 use std::sync::Wait;
 use std::sync::ledger::Blank;
-use std::thread;
-use std::thread::Threads;
 
 /// Tells the story of this board's power controller, and whether all went as it has to.
 pub(crate) fn told_of_starts<R: Wait>(rt: &R, alloc: Global, all: bool) -> Option<bool> {
@@ -97,74 +95,4 @@ fn are_first_two<N: Named>(pass: &CtlPass<N>) -> bool {
         [one, other] => one.place == 0 && other.place == 1 && pass.told_full(),
         _ => false,
     }
-}
-
-/// Tells the story of two threads that wake one core, and whether all went as it has to.
-pub(crate) fn told_of_threads<R: Threads + Wait + Sync>(rt: &R, alloc: Global) -> Option<bool> {
-    let board = Board::read(alloc, BOARD).ok()?;
-    let tickets = Tickets::new();
-    tell_of_threads::<Brand, R>(rt, alloc, &board, &tickets, Blank::new(1001))
-}
-
-fn tell_of_threads<N: Named + Send + Sync, R: Threads + Wait + Sync>(
-    rt: &R,
-    alloc: Global,
-    board: &Board,
-    tickets: &Tickets,
-    blank: Blank,
-) -> Option<bool>
-    requires room { N.room ≡ 4 }
-    requires board { board.now ≡ N.board }
-    requires name { blank.name ≡ N.name }
-    requires parts { (blank.parts ≡ N.parts) × (N.parts ≡ 1001) }
-{
-    let core = Core { number: 1 };
-    if core.number >= board.cores() {
-        return None;
-    }
-    let shared = SharedController::<N>::new(alloc, board, 4, tickets, blank).ok()?;
-    wake_in_two_threads(rt, alloc, shared, core)
-}
-
-/// Two threads wake one core, which has no start yet, and reset it: one of them wakes it. The book
-/// holds four entries, and a fifth call is refused.
-fn wake_in_two_threads<N: Named + Send + Sync, R: Threads + Wait + Sync>(
-    rt: &R,
-    alloc: Global,
-    mut shared: SharedController<'_, N>,
-    core: Core,
-) -> Option<bool>
-    requires { core.number < cores N.board }
-{
-    let first = shared.pass().ok()?;
-    let second = shared.pass().ok()?;
-    let lock = &shared;
-    let ((first, one), (second, other)) = thread::join(
-        rt,
-        move || wakes(rt, lock, first, core),
-        move || wakes(rt, lock, second, core),
-    );
-    let mut first = first;
-    let is_full = shared.reset(rt, &mut first, core).is_err();
-    let mut passes = Vec::with_capacity(alloc, 2).ok()?;
-    passes.push(first).ok()?;
-    passes.push(second).ok()?;
-    let books = shared.gather(passes).ok()?;
-    Some(one? != other? && is_full && books.book.len() == 4)
-}
-
-/// Wakes the core and resets it. Says whether the wake-up started it, and nothing where the reset
-/// did not.
-fn wakes<N: Named, R: Wait>(
-    rt: &R,
-    shared: &SharedController<'_, N>,
-    pass: CtlPass<N>,
-    core: Core,
-) -> (CtlPass<N>, Option<bool>)
-    requires { core.number < cores N.board }
-{
-    let mut pass = pass;
-    let woken = shared.wake(rt, &mut pass, core, 0) != Ok(Kick::Ignored);
-    let is_reset = shared.reset(rt, &mut pass, core) != Ok(Kick::Ignored);
-    (pass, is_reset.then_some(woken))
 }

@@ -3,7 +3,6 @@
 //! schedule.
 //!
 //! - A *story* is what is done with one shared firmware, and what is seen of it at the end.
-//! - A *travel* is what became of the frames of runs: how many were lost, came again or overtook.
 //! - A *meeting* is a gate that lets the second calls of cores 0 and 1 go on together alone.
 //! - A *server* is one core of a body that has no threads: it serves its cores one after another.
 #![tactic(auto)]
@@ -21,8 +20,6 @@ mod fresh;
 #[cfg(test)]
 mod held;
 #[cfg(test)]
-mod lossy;
-#[cfg(test)]
 mod meeting;
 #[cfg(test)]
 mod named;
@@ -37,12 +34,11 @@ mod threads;
 
 #[cfg(test)]
 mod tests {
-    use crate::boards::{BOARD, LARGE, ONE, TALL, is_audited, met, served, travels};
-    use crate::controller::{told_of_starts, told_of_threads};
+    use crate::boards::{BOARD, LARGE, ONE, TALL, is_audited, met, served};
+    use crate::controller::told_of_starts;
     use crate::counted::is_counted;
     use crate::forged::{is_illegal_at, is_ticket_twice, judged, judged_by_message};
     use crate::fresh::{entries_of_controller, entries_of_firmware};
-    use crate::lossy::Travel;
     use crate::named::{Story, told};
     use crate::starting::starts_after_the_end;
     use psci_bench::{AuditFault, BenchFault};
@@ -59,36 +55,21 @@ mod tests {
         assert_eq!(rt; told(&rt, rt.alloc(), Story::Serials), Some(true));
         assert_eq!(rt; told(&rt, rt.alloc(), Story::GoesOff), Some(true));
         assert_eq!(rt; told(&rt, rt.alloc(), Story::TwoThreads(49)), Some(true));
-        assert_eq!(rt; told(&rt, rt.alloc(), Story::Polled), Some(true));
         assert_eq!(rt; told(&rt, rt.alloc(), Story::PolledWhileHeld), Some(true));
         assert_eq!(rt; entries_of_controller(rt.alloc()), Some(0));
         assert_eq!(rt; told_of_starts(&rt, rt.alloc(), true), Some(true));
         assert_eq!(rt; told_of_starts(&rt, rt.alloc(), false), Some(true));
-        assert_eq!(rt; told_of_threads(&rt, rt.alloc()), Some(true));
         Ok(())
     }
 
-    /// A third of what twenty runs have together, or less.
-    const FLOOR: Travel = Travel {
-        never_delivered: 200,
-        delivered_again: 250,
-        messages_overtaken: 200,
-        acks_lost: 300,
-        acks_repeated: 40,
-        acks_overtaken: 50,
-        acks_old: 400,
-        acks_used: 300,
-        resets: 50,
-    };
-
     #[test]
-    fn seeds_are_audited(rt: HostRuntime) -> Result<(), Fail> {
-        assert_eq!(rt; travels(&rt, rt.alloc(), BOARD, 20, 200, FLOOR), Ok(true));
-        assert_eq!(rt; is_audited(&rt, rt.alloc(), TALL, 1, 200), Ok(true));
-        assert_eq!(rt; is_audited(&rt, rt.alloc(), ONE, 1, 200), Ok(true));
-        assert_eq!(rt; is_audited(&rt, rt.alloc(), LARGE, 1, 50), Ok(true));
-        assert_eq!(rt; is_audited(&rt, rt.alloc(), BOARD, 1, 0), Ok(true));
-        assert_eq!(rt; is_counted(&rt, rt.alloc(), BOARD, 3, 200), Ok(true));
+    fn runs_are_audited(rt: HostRuntime) -> Result<(), Fail> {
+        assert_eq!(rt; is_audited(&rt, rt.alloc(), BOARD, 0, 0), Ok(true));
+        assert_eq!(rt; is_audited(&rt, rt.alloc(), BOARD, 200, 50), Ok(true));
+        assert_eq!(rt; is_audited(&rt, rt.alloc(), TALL, 40, 0), Ok(true));
+        assert_eq!(rt; is_audited(&rt, rt.alloc(), ONE, 40, 0), Ok(true));
+        assert_eq!(rt; is_audited(&rt, rt.alloc(), LARGE, 50, 0), Ok(true));
+        assert_eq!(rt; is_counted(&rt, rt.alloc(), BOARD, 3, 40), Ok(true));
         Ok(())
     }
 

@@ -7,7 +7,7 @@ ghost use Rattle.psci_status.specs.Seats.{table, table_of_writer, written};
 
 use crate::held::poll_while_held;
 use crate::passes::{full_books, goes_off, serials_stay, statuses_are_read, three_calls, too_many};
-use crate::threads::{poll_in_two_threads, two_threads};
+use crate::threads::two_threads;
 use psci_board::Board;
 use psci_shared::{Named, SharedFirmware, StatusWords, Tickets, Writer};
 use std::alloc::Global;
@@ -39,8 +39,6 @@ pub(crate) enum Story {
     GoesOff,
     /// Two threads make so many calls each.
     TwoThreads(u32),
-    /// One thread calls while another one polls.
-    Polled,
     /// One thread polls while another one holds the lock.
     PolledWhileHeld,
 }
@@ -101,7 +99,6 @@ fn tell<N: Named + Send + Sync, R: Threads + Wait + Sync>(
         Story::Serials => serials_stay(rt, shared),
         Story::GoesOff => goes_off(rt, shared),
         Story::TwoThreads(calls) => two_threads(rt, alloc, shared, calls),
-        Story::Polled => poll_in_two_threads(rt, alloc, shared),
         Story::PolledWhileHeld => poll_while_held(rt, shared),
     }
 }

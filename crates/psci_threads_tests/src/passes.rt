@@ -2,7 +2,7 @@
 
 ghost use Rattle.std.specs.Prelude.{◌≡◌, IfSome};
 
-use psci_fw::{Act, Cause, Code, FwFault, Regs, Start};
+use psci_fw::{Act, Cause, Code, FwFault, Outcome, Regs, Start};
 use psci_messages::{Ack, Kind, Taken};
 use psci_shared::{Books, CallFault, Core, GatherCause, Named, Pass, PassFault, SharedFirmware};
 use std::alloc::Global;
@@ -30,7 +30,7 @@ pub(crate) const VERSION: Regs = Regs {
 };
 
 /// The last core is asked on, with context id 7.
-pub(crate) const CPU_ON: Regs = Regs {
+const CPU_ON: Regs = Regs {
     x0: 0xc400_0003,
     x1: 0x101,
     x2: 0x4000_1000,
@@ -168,8 +168,8 @@ pub(crate) fn too_many<N: Named, R: Wait>(
     Some(none == PassFault::TooMany && refused == CallFault::BookFull)
 }
 
-/// A core is OFF, ON_PENDING once it is asked on, and ON once it has entered; a pass that made no
-/// call reads the same.
+/// A core is OFF, ON_PENDING once it is asked on, which sends its message, and ON once it has
+/// entered; a pass that made no call reads the same.
 pub(crate) fn statuses_are_read<N: Named, R: Wait>(
     rt: &R,
     mut shared: SharedFirmware<'_, N>,
@@ -180,12 +180,13 @@ pub(crate) fn statuses_are_read<N: Named, R: Wait>(
     shared.enter(rt, &mut first, FIRST).ok()?;
     let own = shared.affinity_core(&mut first, 0);
     let off = shared.affinity_core(&mut first, 0x1);
-    let asked = shared.smc(rt, &mut first, CPU_ON).ok()?.act;
+    let Outcome { act, message } = shared.smc(rt, &mut first, CPU_ON).ok()?;
     let pending = shared.affinity_core(&mut first, 0x101);
     let seen = shared.affinity_core(&mut other, 0x101);
     let nobody = shared.affinity_core(&mut other, 0x200);
     let statuses = [before, own, off, pending, seen, nobody];
-    Some(asked == Act::Return(Code(0)) && statuses == [1, 0, 1, 2, 2, -2].map(Code))
+    let is_sent = message.is_some_and(|message| message.core.number == 3);
+    Some(act == Act::Return(Code(0)) && is_sent && statuses == [1, 0, 1, 2, 2, -2].map(Code))
 }
 
 /// Entering is the third status of the boot core. An acknowledgement that nothing waits for leaves

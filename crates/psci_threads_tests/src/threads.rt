@@ -1,6 +1,6 @@
-//! Stories of two threads with a pass each.
+//! The story of two threads with a pass each.
 
-use crate::passes::{CPU_ON, ENTERS, FIRST, VERSION};
+use crate::passes::{ENTERS, FIRST, VERSION};
 use psci_fw::{Act, Code, FwFault};
 use psci_shared::{CallFault, Core, Named, Pass, SharedFirmware};
 use std::alloc::Global;
@@ -82,58 +82,4 @@ fn is_refused<N: Named, R: Wait>(
         };
     }
     (pass, right)
-}
-
-/// A thread asks a core on, while another one polls that core: it reads OFF or ON_PENDING, and once
-/// both are done ON_PENDING.
-pub(crate) fn poll_in_two_threads<N: Named + Send + Sync, R: Threads + Wait + Sync>(
-    rt: &R,
-    alloc: Global,
-    mut shared: SharedFirmware<'_, N>,
-) -> Option<bool> {
-    let first = shared.pass(Core { number: 0 }).ok()?;
-    let second = shared.pass(Core { number: 1 }).ok()?;
-    let lock = &shared;
-    let ((first, asked), (second, polled)) = thread::join(
-        rt,
-        move || asks(rt, lock, first),
-        move || polls(lock, second),
-    );
-    let mut first = first;
-    let mut second = second;
-    let own = shared.affinity_core(&mut first, 0x101);
-    let other = shared.affinity_core(&mut second, 0x101);
-    let entries = gathered(alloc, shared, first, second)?;
-    Some(asked && polled && own == Code(2) && other == Code(2) && entries == 2)
-}
-
-/// Enters and asks the last core on, and whether that core then reads ON_PENDING, the own core ON
-/// and the one beside it OFF.
-fn asks<N: Named, R: Wait>(
-    rt: &R,
-    shared: &SharedFirmware<'_, N>,
-    pass: Pass<N>,
-) -> (Pass<N>, bool) {
-    let mut pass = pass;
-    let entered = shared.enter(rt, &mut pass, FIRST).is_ok();
-    let asked = shared.smc(rt, &mut pass, CPU_ON).is_ok();
-    let pending = shared.affinity_core(&mut pass, 0x101) == Code(2);
-    let on = shared.affinity_core(&mut pass, 0) == Code(0);
-    let off = shared.affinity_core(&mut pass, 0x1) == Code(1);
-    (pass, entered && asked && pending && on && off)
-}
-
-/// Polls a thousand times, and says whether each answer was OFF or ON_PENDING, and none OFF after
-/// ON_PENDING.
-fn polls<N: Named>(shared: &SharedFirmware<'_, N>, pass: Pass<N>) -> (Pass<N>, bool) {
-    let mut pass = pass;
-    let mut pending = false;
-    for _ in 0..1000u32 {
-        let code = shared.affinity_core(&mut pass, 0x101);
-        if code != Code(2) && (pending || code != Code(1)) {
-            return (pass, false);
-        }
-        pending = code == Code(2);
-    }
-    (pass, true)
 }

@@ -1,16 +1,55 @@
 -- What is kept of some cores, once one of them came into another state.
-use Rattle.std.proofs.lemmas.Bool.{cases_lt}
+use Rattle.std.specs.Prelude.{None, Some}
+use Rattle.std.proofs.Common.{◌⊎◌}
+use Rattle.std.proofs.lemmas.Bool.{cases_lt, lt-ltb}
 use Rattle.std.proofs.lemmas.Grind.{same_number_lists}
 use Rattle.std.proofs.lemmas.List.{get_or_past}
 use Rattle.std.proofs.lemmas.List.Sums.{sum_by-set}
-use Rattle.psci_tree.proofs.Words.{◌*◌, ◌+◌, ◌-◌, ◌<◌, ◌==◌, ◌^◌, ◌∙◌, ◌∷◌, ◌≡◌, ◌≤◌, []}
-use Rattle.psci_tree.proofs.Words.{ap, AreSmall, arith, asking_else, asking_in, asks, cases_eq}
-use Rattle.psci_tree.proofs.Words.{cond}
-use Rattle.psci_tree.proofs.Words.{CoreState, count_by-le-length, eq-eqb, get_or}
-use Rattle.psci_tree.proofs.Words.{get_or-le-sum_by, get_or-set_other, get_or-set_same, inl, inr}
-use Rattle.psci_tree.proofs.Words.{is_active, is_away, Keeps, Kept, kept_exchanged, length}
-use Rattle.psci_tree.proofs.Words.{length-set, List, map, MayExchange, ne_eqb, recount, refl, set}
-use Rattle.psci_tree.proofs.Words.{suc, sum_by, sum_by-cons, sym, zero, ℕ}
+use Rattle.psci_board.specs.Board.{parent}
+use Rattle.psci_board.specs.declared.span.CoreSpan.{CoreSpan}
+use Rattle.psci_tree.proofs.Words.{◌&&◌, ◌*◌, ◌+◌, ◌-◌, ◌<◌, ◌==◌, ◌^◌, ◌∙◌, ◌∷◌, ◌≡◌, ◌≤◌, []}
+use Rattle.psci_tree.proofs.Words.{ap, AreSmall, arith, asking_else, asking_in, asks, BoardValue}
+use Rattle.psci_tree.proofs.Words.{Bool, cases_eq, cond, CoreState, count_by-le-length, drop}
+use Rattle.psci_tree.proofs.Words.{eq-eqb, get_or, get_or-le-sum_by, get_or-set_other}
+use Rattle.psci_tree.proofs.Words.{get_or-set_same, group_of, HasNodeIn, inl, inr, is_active}
+use Rattle.psci_tree.proofs.Words.{is_away, IsKeptOn, Keeps, Kept, kept_at, kept_exchanged}
+use Rattle.psci_tree.proofs.Words.{length, length-set, List, map, MayExchange, ne_eqb}
+use Rattle.psci_tree.proofs.Words.{never_started, Node, recount, refl, set, size_below, SpanLaws}
+use Rattle.psci_tree.proofs.Words.{states_in, suc, sum_by, sum_by-cons, sym, take, true, zero, ℕ}
+
+-- What a node keeps: of a core its state, and of a domain what its row has ------------------------
+
+-- the states below a core are its own
+one_state : (cores : List CoreState) (p : ℕ) (d : CoreState) → p < length cores
+    → take 1 (drop p cores) ≡ get_or cores p d ∷ []
+one_state [] p d h = absurd (omega arith)
+one_state (c ∷ cores) zero d h = refl
+one_state (c ∷ cores) (suc p) d h = one_state cores p d (omega arith)
+
+pub node_keeps : (levels : List (List ℕ)) (cores : List CoreState) (rows : List (List Kept))
+    (n : Node) (k : Kept) → SpanLaws levels → length cores ≡ size_below levels
+    → HasNodeIn levels n
+    → ((c : CoreState) → n.level ≡ 0 → Keeps 0 k (get_or cores n.place c ∷ []))
+    → (0 < n.level → k ≡ kept_at rows n.level n.place)
+    → (0 < n.level → IsKeptOn levels cores rows n.level)
+    → Keeps n.level k (states_in levels cores n)
+node_keeps levels cores rows n k laws same has core domain keeps = elim (zero_or n.level) [
+  | inl e ↦
+      let fits : n.place < length cores =
+      omega (arith, has.place, same, ap (λ l. size_below (drop l levels)) e) in
+      let alone : states_in levels cores n ≡ get_or cores n.place never_started ∷ [] =
+      ap (λ l. states_in levels cores (record { level = l; place = n.place })) e
+      ∙ ap (λ (at : CoreSpan). take at.count (drop at.first cores)) (laws.core n.place)
+      ∙ one_state cores n.place never_started fits in
+      rw (alone, e) (core never_started e)
+  | inr h ↦ rw (domain h) (keeps h n.place has.place)
+]
+  where
+    zero_or : (l : ℕ) → (l ≡ 0) ⊎ (0 < l)
+    zero_or zero = inl refl
+    zero_or (suc l) = inr (omega arith)
+
+-- Changed -----------------------------------------------------------------------------------------
 
 -- One count less, and one more --------------------------------------------------------------------
 
@@ -190,3 +229,18 @@ module _ (level : ℕ) (cs : List CoreState) (j : ℕ) (b s : CoreState) (k : Ke
           get_or_past (of_each (λ d. asking_in level d cs)) depth 0 high,
         )
       ]
+
+-- The parent of a node of a board -----------------------------------------------------------------
+
+both_some : {X : Type 0} (a c : Bool) (x : X) → a ≡ true → c ≡ true
+    → cond (a && c) (Some x) None ≡ Some x
+both_some a c x p q = rw (p, q)
+
+-- each node below the system has one
+pub parent_some : (b : BoardValue) (n : Node) → n.level < length b.levels
+    → n.place < size_below (drop n.level b.levels)
+    → parent b n ≡ Some (record {
+      level = n.level + 1;
+      place = group_of (get_or b.levels n.level []) n.place;
+    })
+parent_some b n h i = both_some _ _ _ (lt-ltb _ _ h) (lt-ltb _ _ i)

@@ -3,7 +3,7 @@ use Rattle.std.proofs.Common.{◌≡◌, ℕ, zero, suc, ◌<◌, List, [], ◌�
 use Rattle.std.proofs.Common.{refl, ap, sym, ◌∙◌, arith, ◌++◌, ◌+◌, drop, take}
 use Rattle.std.proofs.Math.ListN.{set}
 use Rattle.std.proofs.lemmas.List.{get_or-map, length-map, map-set, map_more}
-use Rattle.psci_board.specs.declared.node.Node.{Node}
+use Rattle.psci_board.specs.declared.draft.Node.{Node}
 use Rattle.psci_board.specs.Board.{HasNodeIn}
 use Rattle.psci_tree.specs.declared.depths.Depths.{Depths}
 use Rattle.psci_tree.specs.Changes.{rows_with_depth}

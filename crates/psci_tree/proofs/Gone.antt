@@ -1,16 +1,125 @@
 -- Rows whose first entries were replaced, and what is kept while every core is off.
-use Rattle.psci_tree.proofs.Words.{◌++◌, ◌+◌, ◌-◌, ◌<◌, ◌∙◌, ◌∷◌, ◌≡◌, ◌≤◌, [], ap, AreKept}
-use Rattle.psci_tree.proofs.Words.{AreSmall, arith, CoreState, drop, get_or, get_or-map}
-use Rattle.psci_tree.proofs.Words.{get_or-replicate, gone}
-use Rattle.psci_tree.proofs.Words.{HasNodeIn, Kept, kept_at, length}
-use Rattle.psci_tree.proofs.Words.{length-map, length-replicate, level_kept, List, map}
-use Rattle.psci_tree.proofs.Words.{never_started, Node, recount, refl, replicate, set, size_below}
-use Rattle.psci_tree.proofs.Words.{span, SpanLaws, states_in, suc, take, zero, ℕ}
-use Rattle.psci_tree.proofs.OffOnes.{never_keeps}
 use Rattle.std.proofs.lemmas.List.{get_or_append_left, get_or_push}
-use Rattle.psci_tree.proofs.Words.{cases_eq, inl, inr}
-use Rattle.psci_tree.proofs.Spans.{states_long}
+use Rattle.std.proofs.lemmas.List.Folds.{fold-map, sum_by-replicate}
+use Rattle.std.proofs.lemmas.Simd.{map-map}
 use Rattle.psci_tree.specs.Kept.{IsOffRow}
+use Rattle.psci_tree.specs.Recount.{active, known, low, off}
+use Rattle.psci_tree.specs.Way.{AreRows}
+use Rattle.psci_tree.proofs.DepthRows.{depths_written}
+use Rattle.psci_tree.proofs.Granted.{cleared_from, cleared_more, cleared_over, row_lengths}
+use Rattle.psci_tree.proofs.Granted.{rows_long}
+use Rattle.psci_tree.proofs.Levels.{states_long}
+use Rattle.psci_tree.proofs.Words.{◌++◌, ◌+◌, ◌-◌, ◌<◌, ◌∙◌, ◌∷◌, ◌≡◌, ◌≤◌, [], ap, AreKept}
+use Rattle.psci_tree.proofs.Words.{AreSmall, arith, asking_in, asks, below_in, cases_eq, cond}
+use Rattle.psci_tree.proofs.Words.{confirmed_of, CoreState, count_by, Depths, drop, false}
+use Rattle.psci_tree.proofs.Words.{get_or, get_or-map, get_or-replicate, gone, granted_of}
+use Rattle.psci_tree.proofs.Words.{HasNodeIn, inl, inr, is_active, is_away, Keeps, Kept, kept_at}
+use Rattle.psci_tree.proofs.Words.{least, leb, length, length-map, length-replicate, level_kept}
+use Rattle.psci_tree.proofs.Words.{level_sizes, List, map, nat_tests, never_started, Node}
+use Rattle.psci_tree.proofs.Words.{path_cleared, place_above, recount, refl, replicate, set}
+use Rattle.psci_tree.proofs.Words.{size_below, span, SpanLaws, state_at, states_in, suc, sum_by}
+use Rattle.psci_tree.proofs.Words.{sym, take, TreeValue, true, zero, ℕ}
+
+-- A path is cleared level by level, from the core up ----------------------------------------------
+
+-- nothing is granted, and nothing confirmed
+abbrev none : Depths
+none = record { granted = 0; confirmed = 0 }
+
+-- with what is left to clear from this level up, all is as cleared at once
+pub record IsClearedTo (levels : List (List ℕ)) (core : ℕ) (old now : List (List Depths))
+    (level : ℕ) : Type 0 where
+  pub rows : AreRows levels (granted_of now) (confirmed_of now)
+  pub granted : cleared_from levels core level (granted_of now)
+      ≡ path_cleared levels core (granted_of old)
+  pub confirmed : cleared_from levels core level (confirmed_of now)
+      ≡ path_cleared levels core (confirmed_of old)
+
+-- the rows of either depth, with none at the place of a level on the path
+module _ (f : Depths → ℕ) (levels : List (List ℕ)) (core : ℕ) (rows next : List (List Depths))
+    (l p : ℕ) (zero : f none ≡ 0) (is : next ≡ set rows l (set (get_or rows l []) p none)) where
+  lengths_kept : map length (map (map f) next) ≡ map length (map (map f) rows)
+  lengths_kept = rw is (ap (map length) (depths_written f rows l p none)
+      ∙ row_lengths (map (map f) rows) l p (f none))
+
+  one_cleared : l ≤ length levels → map length (map (map f) rows) ≡ level_sizes levels
+      → p ≡ place_above levels l core
+      → cleared_from levels core (l + 1) (map (map f) next)
+      ≡ cleared_from levels core l (map (map f) rows)
+  one_cleared top long at = rw (is, depths_written f rows l p none, zero) (cleared_more levels
+      (map (map f) rows) core l p top (rows_long levels (map (map f) rows) long) at)
+
+-- the domain of one level more is cleared
+pub level_cleared : (levels : List (List ℕ)) (core : ℕ) (old now next : List (List Depths))
+    (l p : ℕ) → l ≤ length levels → p ≡ place_above levels l core
+    → next ≡ set now l (set (get_or now l []) p none) → IsClearedTo levels core old now l
+    → IsClearedTo levels core old next (l + 1)
+level_cleared levels core old now next l p top at is c = record {
+  rows = record {
+    granted = lengths_kept (λ d. d.granted) levels core now next l p refl is ∙ c.rows.granted;
+    confirmed = lengths_kept (λ d. d.confirmed) levels core now next l p refl is
+        ∙ c.rows.confirmed;
+  };
+  granted = one_cleared (λ d. d.granted) levels core now next l p refl is top c.rows.granted at
+      ∙ c.granted;
+  confirmed = one_cleared (λ d. d.confirmed) levels core now next l p refl is top
+      c.rows.confirmed at ∙ c.confirmed;
+}
+
+-- above the system all is cleared
+pub cleared_all : (levels : List (List ℕ)) (core : ℕ) (old now : List (List Depths)) (l : ℕ)
+    → length levels < l → IsClearedTo levels core old now l
+    → (granted_of now ≡ path_cleared levels core (granted_of old))
+    × (confirmed_of now ≡ path_cleared levels core (confirmed_of old))
+cleared_all levels core old now l h c = (
+  sym (cleared_over levels (granted_of now) core l h
+      (rows_long levels (granted_of now) c.rows.granted)) ∙ c.granted,
+  sym (cleared_over levels (confirmed_of now) core l h
+      (rows_long levels (confirmed_of now) c.rows.confirmed)) ∙ c.confirmed,
+)
+
+-- What is kept of cores that are off and were never started ---------------------------------------
+
+-- all of them are off
+count_never : (n : ℕ) → count_by (λ c. is_away c.activity) (replicate n never_started) ≡ n
+count_never n = simp (sum_by-replicate) (omega arith)
+
+-- and ask for power-down
+asking_never : (level n : ℕ) → asking_in level 3 (replicate n never_started) ≡ n
+asking_never level n = simp (sum_by-replicate) (omega arith)
+
+-- what is kept of so many cores that are off and were never started
+pub kept_never : (level n : ℕ) → record {
+  known = 0;
+  asking = 0 ∷ 0 ∷ 0 ∷ n ∷ [];
+  cores = n;
+  active = 0;
+  off = n;
+} ≡ recount level (replicate n never_started)
+kept_never level n =
+    let known : sum_by (λ c. c.known) (replicate n never_started) ≡ 0 =
+    simp sum_by-replicate (omega arith) in
+    let active : count_by (λ c. is_active c.activity) (replicate n never_started) ≡ 0 =
+    simp sum_by-replicate (omega arith) in
+    let none : asking_in level 0 (replicate n never_started) ≡ 0 =
+    simp sum_by-replicate (omega arith) in
+    let one : asking_in level 1 (replicate n never_started) ≡ 0 =
+    simp sum_by-replicate (omega arith) in
+    let two : asking_in level 2 (replicate n never_started) ≡ 0 =
+    simp sum_by-replicate (omega arith) in
+    simp (known, active, none, one, two, asking_never, count_never, length-replicate)
+
+pub never_keeps : (level n : ℕ)
+    → Keeps level (recount 0 (replicate n never_started)) (replicate n never_started)
+never_keeps level n =
+    let known : sum_by (λ c. c.known) (replicate n never_started) ≡ 0 =
+    simp sum_by-replicate (omega arith) in
+    record {
+      counted = sym (kept_never 0 n) ∙ kept_never level n;
+      small = omega (arith, known);
+    }
+
+-- Gone --------------------------------------------------------------------------------------------
 
 -- One after the other --------------------------------------------------------------------------
 
@@ -31,13 +140,6 @@ gone_all f [] zero h = refl
 gone_all f [] (suc n) h = refl
 gone_all f (x ∷ xs) zero h = absurd (omega arith)
 gone_all f (x ∷ xs) (suc n) h = ap (λ rest. f x ∷ rest) (gone_all f xs n (omega arith))
-
-pub gone_long : {X : Type 0} (f : X → X) (xs : List X) (n : ℕ)
-    → length (gone_to f n xs) ≡ length xs
-gone_long f [] zero = refl
-gone_long f [] (suc n) = refl
-gone_long f (x ∷ xs) zero = refl
-gone_long f (x ∷ xs) (suc n) = ap suc (gone_long f xs n)
 
 -- While every core is off ------------------------------------------------------------------------
 
@@ -125,3 +227,47 @@ rows_push levels rows now row level long e own each k some h = elim (cases_eq k 
       rw (e, get_or_append_left rows (row ∷ []) [] (k - 1) (omega (arith, long, h, some, other)))
       (each k some (omega (arith, h, other)))
 ]
+
+-- Recounts over the states of the cores below a domain --------------------------------------------
+
+abbrev pub states : TreeValue → Node → List CoreState
+states t n = map (λ c. state_at t c) (below_in t.levels n)
+
+pub low_is : (t : TreeValue) (n : Node) (level : ℕ) (cs : List CoreState) → cs ≡ states t n
+    → level ≤ length t.levels → least (map (λ s. asks s.activity level) cs) ≡ low t n level
+unfolding low
+low_is t n level cs e h =
+    let within : leb level (length t.levels) ≡ true = grind (arith, nat_tests) in
+    rw (e, map-map (λ s. asks s.activity level) (λ c. state_at t c) (below_in t.levels n), within)
+
+none_asked : (xs : List ℕ) → 0 < length xs → least (map (λ c. 0) xs) ≡ 0
+none_asked [] h = absurd (omega arith)
+none_asked (x ∷ xs) h = omega arith
+
+-- no core asks anything above the height
+pub low_above : (t : TreeValue) (n : Node) (level : ℕ) → 0 < length (below_in t.levels n)
+    → length t.levels < level → 0 ≡ low t n level
+unfolding low
+low_above t n level some h =
+    let above : leb level (length t.levels) ≡ false = grind (arith, nat_tests) in
+    rw above (sym (none_asked (below_in t.levels n) some))
+
+sum_is : (f : CoreState → ℕ) (t : TreeValue) (n : Node) (cs : List CoreState) → cs ≡ states t n
+    → sum_by f cs ≡ sum_by (λ c. f (state_at t c)) (below_in t.levels n)
+sum_is f t n cs e =
+    ap (sum_by f) e ∙ fold-map (λ a x. a + f x) (λ c. state_at t c) 0 (below_in t.levels n)
+
+pub known_is : (t : TreeValue) (n : Node) (cs : List CoreState) → cs ≡ states t n
+    → sum_by (λ s. s.known) cs ≡ known t n
+unfolding known
+known_is t n cs e = sum_is (λ s. s.known) t n cs e
+
+pub active_is : (t : TreeValue) (n : Node) (cs : List CoreState) → cs ≡ states t n
+    → count_by (λ s. is_active s.activity) cs ≡ active t n
+unfolding active
+active_is t n cs e = sum_is (λ s. cond (is_active s.activity) 1 0) t n cs e
+
+pub off_is : (t : TreeValue) (n : Node) (cs : List CoreState) → cs ≡ states t n
+    → count_by (λ s. is_away s.activity) cs ≡ off t n
+unfolding off
+off_is t n cs e = sum_is (λ s. cond (is_away s.activity) 1 0) t n cs e

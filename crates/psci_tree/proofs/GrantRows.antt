@@ -2,7 +2,7 @@
 -- one case that keeps it, and one that breaks it and no other.
 use Rattle.std.proofs.Common.{◌≡◌, ℕ, zero, suc, ◌+◌, ◌-◌, ◌<◌, ◌≤◌, List, [], ◌∷◌, length, arith}
 use Rattle.std.proofs.Common.{refl, ap}
-use Rattle.psci_board.specs.declared.node.Node.{Node}
+use Rattle.psci_board.specs.declared.draft.Node.{Node}
 use Rattle.psci_board.specs.Board.{place_above}
 use Rattle.psci_state.specs.declared.cores.Activity.TheVariants.{Suspended}
 use Rattle.psci_tree.specs.Recount.{TreeValue, IsDomainTree, granted_at, never_started}

@@ -1,53 +1,21 @@
 -- The words of cores tell what they do, and are the words of cores.
-use Rattle.std.proofs.Common.{◌≡◌, ℕ, suc, ◌+◌, ◌-◌, ◌*◌, ◌^◌, ◌<◌, ◌≤◌, ◌==◌, ◌&&◌, Bool, true}
-use Rattle.std.proofs.Common.{false, cond, List, [], ◌∷◌, ◌++◌, length, take, drop, set, get_or}
-use Rattle.std.proofs.Common.{flat_map, Some, None, refl, ap, sym, ◌∙◌, arith, append-nil}
-use Rattle.std.proofs.Common.{append_assoc}
+use Rattle.std.proofs.Common.{◌*◌, ◌++◌, ◌<◌, ◌==◌, ◌^◌, ◌∙◌, ◌∷◌, ◌≡◌, ◌≤◌, []}
+use Rattle.std.proofs.Common.{ap, arith, Bool, cond, drop, false}
+use Rattle.std.proofs.Common.{flat_map, get_or, length, List, None, refl, Some, suc, sym}
+use Rattle.std.proofs.Common.{true, ℕ}
 use Rattle.std.specs.Prelude.{is_some, nat_lt, Ok}
-use Rattle.std.proofs.lemmas.Bool.{and_from, and_parts, lt-ltb, ltb-true, ne_eqb}
-use Rattle.std.proofs.lemmas.List.{length-append, length-set, take_all, take_more, take_more_set}
-use Rattle.std.proofs.lemmas.List.Concat.{flat_map-append, flat_map-cons}
+use Rattle.std.proofs.lemmas.Bool.{and_from, lt-ltb, ne_eqb}
+use Rattle.std.proofs.lemmas.List.{length-append}
+use Rattle.std.proofs.lemmas.List.Concat.{flat_map-cons}
 use Rattle.std.proofs.lemmas.Option.{same_Some}
-use Rattle.psci_board.specs.psci_abi.declared.format.Format.TheVariants.{Extended}
-use Rattle.psci_state.specs.Ask.{IsAsk, highest_of, is_deep}
-use Rattle.psci_state.specs.PowerState.{ask_of, word_of}
+use Rattle.psci_board.specs.psci_abi.declared.registers.Format.TheVariants.{Extended}
+use Rattle.psci_state.specs.PowerState.{ask_of, highest_of, is_deep, IsAsk, word_of}
 use Rattle.psci_state.specs.declared.cores.Activity.{Activity}
 use Rattle.psci_state.specs.declared.cores.Activity.TheVariants.{Active, Suspended, Away}
 use Rattle.psci_state.specs.declared.cores.CoreState.{CoreState}
 use Rattle.psci_tree.specs.Recount.{IsActivity}
-use Rattle.psci_tree.specs.Saved.{AreCounted, activity_of, activity_word, are_cores, away_word}
-use Rattle.psci_tree.specs.Saved.{core_words, is_core, suspended_by}
-
--- Written ------------------------------------------------------------------------------------
-
-two_more : (v : List ℕ) (i a b : ℕ) → i + 2 ≤ length v
-    → take (i + 2) (set (set v i a) (i + 1) b) ≡ take i v ++ a ∷ b ∷ []
-two_more v i a b low =
-    ap (λ n. take n (set (set v i a) (i + 1) b)) (omega arith)
-    ∙ take_more_set (set v i a) (i + 1) b (omega (arith, low, length-set v i a))
-    ∙ ap (λ xs. xs ++ b ∷ []) (take_more_set v i a (omega (arith, low)))
-    ∙ append_assoc (take i v) (a ∷ []) (b ∷ [])
-
--- the cores so far, with one more
-pub cores_saved : (cs : List CoreState) (c : CoreState) (k start a b : ℕ) (w v : List ℕ)
-    → k < length cs → ((d : CoreState) → get_or cs k d ≡ c) → start + 2 * k + 2 ≤ length v
-    → core_words c ≡ a ∷ b ∷ []
-    → take (start + 2 * k) v ≡ take start w ++ flat_map core_words (take k cs)
-    → take (start + 2 * (k + 1)) (set (set v (start + 2 * k) a) (start + 2 * k + 1) b)
-    ≡ take start w ++ flat_map core_words (take (k + 1) cs)
-cores_saved cs c k start a b w v low is room words before =
-    let done = flat_map core_words (take k cs) in
-    let next : start + 2 * (k + 1) ≡ start + 2 * k + 2 = omega arith in
-    ap (λ n. take n (set (set v (start + 2 * k) a) (start + 2 * k + 1) b)) next
-    ∙ two_more v (start + 2 * k) a b room
-    ∙ ap (λ xs. xs ++ a ∷ b ∷ []) before
-    ∙ append_assoc (take start w) done (a ∷ b ∷ [])
-    ∙ ap (λ xs. take start w ++ xs)
-    (ap (λ xs. done ++ xs)
-    (sym (flat_map-cons core_words c [] ∙ append-nil (core_words c) ∙ words))
-    ∙ sym (flat_map-append core_words (take k cs) (c ∷ []))
-    ∙ ap (λ x. flat_map core_words (take k cs ++ x ∷ [])) (sym (is c))
-    ∙ ap (λ xs. flat_map core_words xs) (sym (take_more cs k c low)))
+use Rattle.psci_tree.specs.Saved.{activity_of, activity_word, are_cores, AreCounted, away_word}
+use Rattle.psci_tree.specs.Saved.{core_words, suspended_by}
 
 -- Words --------------------------------------------------------------------------------------
 
@@ -57,64 +25,6 @@ many_cores (c ∷ cs) =
     ap (λ xs. length xs) (flat_map-cons core_words c cs)
     ∙ length-append (core_words c) (flat_map core_words cs)
     ∙ omega (arith, many_cores cs)
-
--- what the first two words of cores say
-pub record IsFirst (w known : ℕ) (ws : List ℕ) : Type 0 where
-  pub some : is_some (activity_of w) ≡ true
-  pub small : known < 2 ^ 32
-  pub rest : are_cores ws ≡ true
-
-pub first_core : (w known : ℕ) (ws : List ℕ) → are_cores (w ∷ known ∷ ws) ≡ true
-    → IsFirst w known ws
-first_core w known ws h =
-    let both = and_parts _ _ h in
-    let own = and_parts _ _ both.0 in
-    record { some = own.0; small = ltb-true known (2 ^ 32) own.1; rest = both.1 }
-
--- the words behind the first two
-abbrev pub after_two : List ℕ → List ℕ
-after_two ws = take (length ws - 2) (drop 2 ws)
-
-pub two_first : (ws : List ℕ) → 2 ≤ length ws → get_or ws 0 0 ∷ get_or ws 1 0 ∷ after_two ws ≡ ws
-two_first [] h = absurd (omega (arith, h))
-two_first (a ∷ []) h = absurd (omega (arith, h))
-two_first (a ∷ b ∷ ws) h =
-    ap (λ xs. a ∷ b ∷ xs) (take_all (length (a ∷ b ∷ ws) - 2) ws (omega arith))
-
-pub rest_long : (ws : List ℕ) → 2 ≤ length ws → length (after_two ws) + 2 ≡ length ws
-rest_long ws h =
-    let is : length (get_or ws 0 0 ∷ get_or ws 1 0 ∷ after_two ws) ≡ length ws =
-    ap (λ (xs : List ℕ). length xs) (two_first ws h) in
-    omega (arith, is)
-
-pub cores_by : (ws : List ℕ) → 2 ≤ length ws
-    → are_cores ws ≡ (is_core (get_or ws 0 0) (get_or ws 1 0) && are_cores (after_two ws))
-cores_by ws h = ap are_cores (sym (two_first ws h))
-
-pub core_at : (ws : List ℕ) → 2 ≤ length ws → are_cores ws ≡ true
-    → IsFirst (get_or ws 0 0) (get_or ws 1 0) (after_two ws)
-core_at ws h is =
-    first_core (get_or ws 0 0) (get_or ws 1 0) (after_two ws) (ap are_cores (two_first ws h) ∙ is)
-
--- one core more is looked at
-pub more_cores : (ws words : List ℕ) → 2 ≤ length ws
-    → is_core (get_or ws 0 0) (get_or ws 1 0) ≡ true → are_cores ws ≡ are_cores words
-    → are_cores (after_two ws) ≡ are_cores words
-more_cores ws words h is e =
-    sym (cores_by ws h ∙ ap (λ b. b && are_cores (after_two ws)) is) ∙ e
-
--- it is none
-pub no_core : (ws words : List ℕ) → 2 ≤ length ws
-    → is_core (get_or ws 0 0) (get_or ws 1 0) ≡ false → are_cores ws ≡ are_cores words
-    → false ≡ are_cores words
-no_core ws words h is e =
-    sym (cores_by ws h ∙ ap (λ b. b && are_cores (after_two ws)) is) ∙ e
-
--- fewer words than those of one core
-pub few_words : (ws : List ℕ) → length ws < 2 → (length ws == 0) ≡ are_cores ws
-few_words [] h = refl
-few_words (w ∷ []) h = ne_eqb (length (w ∷ [])) 0 (λ e. omega (arith, e))
-few_words (a ∷ b ∷ ws) h = absurd (omega (arith, h))
 
 -- The law of power states --------------------------------------------------------------------
 
@@ -204,6 +114,4 @@ cores_told (c ∷ cs) (d ∷ ds) written f g n e =
     cores_told cs ds written (λ k x h. f (suc k) x (omega (arith, h)))
     (λ k x h. g (suc k) x (omega (arith, h))) (omega (arith, n))
     (ap (λ xs. drop 2 xs) both) in
-    ap (λ a. record { activity = a; known = c.known } ∷ cs) does
-    ∙ ap (λ k. record { activity = d.activity; known = k } ∷ cs) known
-    ∙ ap (λ xs. d ∷ xs) rest
+    rw (does, known, rest) refl

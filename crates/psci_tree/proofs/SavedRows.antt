@@ -1,5 +1,5 @@
 -- Rows of depths as one list of words, and what is tested of such words.
-use Rattle.std.proofs.Common.{◌≡◌, ℕ, zero, suc, ◌+◌, ◌<◌, ◌≤◌, Bool, true, false, List, [], ◌∷◌}
+use Rattle.std.proofs.Common.{◌≡◌, ℕ, zero, suc, ◌+◌, ◌<◌, ◌≤◌, Bool, true, List, [], ◌∷◌}
 use Rattle.std.proofs.Common.{◌++◌, length, map, take, drop, get_or}
 use Rattle.std.proofs.Common.{sum, flat_map, refl, ap, sym, ◌∙◌}
 use Rattle.std.proofs.Common.{arith, inl, inr, set, subst}
@@ -171,13 +171,3 @@ all_range p a zero h = refl
 all_range p a (suc n) h =
     and_from _ _ (h a (omega arith) (omega arith))
     (all_range p (a + 1) n (λ k low high. h k (omega (arith, low)) (omega (arith, high))))
-
-no_true : (b : Bool) → (b ≡ true → ⊥) → b ≡ false
-no_true true h = absurd (h refl)
-no_true false h = refl
-
--- one does not
-pub not_range : (p : ℕ → Bool) (a n k : ℕ) → a ≤ k → k < a + n → (p k ≡ true → ⊥)
-    → list_all p (range_with_len a n) ≡ false
-not_range p a n k low high fails =
-    no_true (list_all p (range_with_len a n)) (λ h. fails (at_range p a n k h low high))

@@ -1,27 +1,123 @@
 -- A tree of loaded depths, and what the words of a tree tell.
-use Rattle.std.proofs.Common.{◌≡◌, ℕ, zero, suc, ◌+◌, ◌-◌, ◌*◌, ◌<◌, ◌≤◌, true, List, [], ◌∷◌, ◌++◌}
-use Rattle.std.proofs.Common.{length, map, take, drop, get_or, sum, refl, ap, sym, ◌∙◌, arith, inl}
-use Rattle.std.proofs.Common.{inr, subst, append_assoc}
-use Rattle.std.specs.Prelude.{nat_le}
 use Rattle.std.specs.List.{list_all}
+use Rattle.std.specs.Prelude.{nat_le}
+use Rattle.std.proofs.Common.{◌*◌, ◌++◌, ◌+◌, ◌-◌, ◌<◌, ◌∙◌, ◌∷◌, ◌≡◌, ◌≤◌, [], ap, append_assoc}
+use Rattle.std.proofs.Common.{arith, drop, get_or, inl, inr, length, List, map, refl, set, subst}
+use Rattle.std.proofs.Common.{suc, sum, sym, take, true, zero, ℕ}
 use Rattle.std.proofs.Math.ListN.{get_or-append}
 use Rattle.std.proofs.Math.Seq.{drop-append_seam, get_or-append_right, take-append_seam}
-use Rattle.std.proofs.lemmas.Bool.{and_from, and_parts, cases_lt}
-use Rattle.std.proofs.lemmas.Bool.{eq-eqb, eqb-true, le-leb, leb-true}
-use Rattle.std.proofs.lemmas.List.{get_or_default, get_or_past}
-use Rattle.std.proofs.lemmas.List.{length-append, length-drop, length-take-le}
-use Rattle.std.proofs.lemmas.List.{take-append-drop}
+use Rattle.std.proofs.lemmas.Bool.{and_from, and_parts, cases_lt, eq-eqb, eqb-true, le-leb}
+use Rattle.std.proofs.lemmas.Bool.{leb-true}
+use Rattle.std.proofs.lemmas.List.{drop_more, get_or-map, get_or_default, get_or_past}
+use Rattle.std.proofs.lemmas.List.{length-append, length-drop, length-map, length-take-le}
+use Rattle.std.proofs.lemmas.List.{map-set, take-append-drop, take_more_set}
 use Rattle.std.proofs.lemmas.List.Concat.{flat_map-cons}
 use Rattle.std.proofs.lemmas.List.Folds.{list_all-append}
 use Rattle.psci_board.specs.Board.{size_below}
 use Rattle.psci_state.specs.declared.cores.CoreState.{CoreState}
-use Rattle.psci_tree.specs.Recount.{TreeValue, IsActivity, IsDomainTree, level_sizes}
-use Rattle.psci_tree.specs.Recount.{never_started}
-use Rattle.psci_tree.specs.Saved.{are_depths, are_nested, are_sure, depth_words, domain_count}
-use Rattle.psci_tree.specs.Saved.{is_nested, is_nested_at, rows_of, with_depths}
+use Rattle.psci_tree.specs.Recount.{IsActivity, IsDomainTree, level_sizes, never_started}
+use Rattle.psci_tree.specs.Recount.{TreeValue}
+use Rattle.psci_tree.specs.Saved.{are_depths, are_nested, are_sure, depth_words}
+use Rattle.psci_tree.specs.Saved.{domain_count, is_nested, is_nested_at, rows_of, with_depths}
+use Rattle.psci_tree.specs.declared.depths.Depths.{Depths}
 use Rattle.psci_tree.proofs.SavedCores.{AreActivities}
-use Rattle.psci_tree.proofs.SavedRows.{all_range, at_range, flat, flat_long, rows_back, rows_below}
-use Rattle.psci_tree.proofs.SavedRows.{rows_flat, rows_long, rows_low}
+use Rattle.psci_tree.proofs.SavedRows.{all_range, at_range, flat, flat_long, flat_more}
+use Rattle.psci_tree.proofs.SavedRows.{flat_room, rows_back, rows_below}
+use Rattle.psci_tree.proofs.SavedRows.{rows_flat, rows_long, rows_low, set_same, sum_left}
+
+-- Rows of depths as they are written and read, level by level -------------------------------------
+
+-- one of the two depths of each domain
+abbrev pub read : (Depths → ℕ) → List (List Depths) → List (List ℕ)
+read f rows = map (map f) rows
+
+row_read : (f : Depths → ℕ) (rows : List (List Depths)) (row : List Depths) (k : ℕ)
+    → k < length rows → get_or rows k [] ≡ row → get_or (read f rows) k [] ≡ map f row
+row_read f rows row k h e = get_or-map (map f) rows k [] [] h ∙ ap (map f) e
+
+-- Written ------------------------------------------------------------------------------------
+
+-- there is room for the row of this level
+pub row_room : (f : Depths → ℕ) (rows : List (List Depths)) (row : List Depths) (k start next n : ℕ)
+    → k < length rows → get_or rows k [] ≡ row
+    → next ≡ start + length (flat (take k (read f rows)))
+    → start + length (flat (read f rows)) ≤ n → next + length row ≤ n
+row_room f rows row k start next n h e is room = omega (
+  arith,
+  is,
+  room,
+  flat_room (read f rows) k (omega (arith, h, length-map rows (map f))),
+  ap (λ (xs : List ℕ). length xs) (row_read f rows row k h e),
+  length-map row f,
+)
+
+-- the levels so far, with one more
+pub row_written : (f : Depths → ℕ) (rows : List (List Depths)) (row : List Depths)
+    (k start next : ℕ) (w v u : List ℕ) → k < length rows → get_or rows k [] ≡ row
+    → take next v ≡ take start w ++ flat (take k (read f rows))
+    → take (next + length row) u ≡ take next v ++ map f row
+    → take (next + length row) u ≡ take start w ++ flat (take (k + 1) (read f rows))
+row_written f rows row k start next w v u h e before now =
+    let fits : k < length (read f rows) = omega (arith, h, length-map rows (map f)) in
+    now
+    ∙ ap (λ xs. xs ++ map f row) before
+    ∙ append_assoc (take start w) (flat (take k (read f rows))) (map f row)
+    ∙ ap (λ xs. take start w ++ xs)
+    (ap (λ xs. flat (take k (read f rows)) ++ xs) (sym (row_read f rows row k h e))
+    ∙ sym (flat_more (read f rows) k fits))
+
+pub row_next : (f : Depths → ℕ) (rows : List (List Depths)) (row : List Depths)
+    (k start next : ℕ) → k < length rows → get_or rows k [] ≡ row
+    → next ≡ start + length (flat (take k (read f rows)))
+    → next + length row ≡ start + length (flat (take (k + 1) (read f rows)))
+row_next f rows row k start next h e is =
+    let fits : k < length (read f rows) = omega (arith, h, length-map rows (map f)) in
+    omega (
+      arith,
+      is,
+      ap (λ (xs : List ℕ). length xs) (flat_more (read f rows) k fits),
+      length-append (flat (take k (read f rows))) (get_or (read f rows) k []),
+      ap (λ (xs : List ℕ). length xs) (row_read f rows row k h e),
+      length-map row f,
+    )
+
+-- Read ---------------------------------------------------------------------------------------
+
+-- the levels so far, with one more
+pub row_loaded : (f : Depths → ℕ) (now : List (List Depths)) (old : List ℕ) (k : ℕ)
+    (new : List Depths) (rest : List ℕ) (all : List (List ℕ)) → k < length now
+    → k < length old → map f new ≡ take (get_or old k 0) rest
+    → take k (read f now) ++ rows_of (drop k old) rest ≡ all
+    → take (k + 1) (read f (set now k new))
+    ++ rows_of (drop (k + 1) old) (drop (get_or old k 0) rest) ≡ all
+row_loaded f now old k new rest all h i is before =
+    let n = get_or old k 0 in
+    let others = rows_of (drop (k + 1) old) (drop n rest) in
+    let fits : k < length (read f now) = omega (arith, h, length-map now (map f)) in
+    ap (λ rows. take (k + 1) rows ++ others) (map-set (map f) now k new)
+    ∙ ap (λ rows. rows ++ others) (take_more_set (read f now) k (map f new) fits)
+    ∙ append_assoc (take k (read f now)) (map f new ∷ []) others
+    ∙ ap (λ row. take k (read f now) ++ row ∷ others) is
+    ∙ ap (λ ns. take k (read f now) ++ rows_of ns rest) (sym (drop_more old k 0 i))
+    ∙ before
+
+-- as many domains as before
+pub row_sizes : (now : List (List Depths)) (old : List ℕ) (k : ℕ) (new : List Depths)
+    → k < length now → map length now ≡ old → length new ≡ get_or old k 0
+    → map length (set now k new) ≡ old
+row_sizes now old k new h e n =
+    let fits : k < length (map (λ (row : List Depths). length row) now) =
+    omega (arith, h, length-map now (λ (row : List Depths). length row)) in
+    map-set length now k new
+    ∙ ap (λ ns. set ns k (length new)) e
+    ∙ set_same old k (length new) (sym n) (omega (arith, fits, ap (λ (xs : List ℕ). length xs) e))
+
+pub row_left : (old : List ℕ) (k : ℕ) (rest : List ℕ) → k < length old
+    → length rest ≡ sum (drop k old)
+    → length (drop (get_or old k 0) rest) ≡ sum (drop (k + 1) old)
+row_left old k rest h e = omega (arith, e, sum_left old k h, length-drop (get_or old k 0) rest)
+
+-- Saved trees -------------------------------------------------------------------------------------
 
 -- Loaded -------------------------------------------------------------------------------------
 
@@ -241,30 +337,7 @@ pub same_tree : (t u : TreeValue) → IsDomainTree t → IsDomainTree u → t.le
     → t.cores ≡ u.cores → depth_words t ≡ depth_words u → t ≡ u
 same_tree t u v w l c e =
     let both = depths_told t u v w l e in
-    ap (λ ls. record {
-      levels = ls;
-      cores = t.cores;
-      granted = t.granted;
-      confirmed = t.confirmed;
-    }) l
-    ∙ ap (λ cs. record {
-      levels = u.levels;
-      cores = cs;
-      granted = t.granted;
-      confirmed = t.confirmed;
-    }) c
-    ∙ ap (λ gs. record {
-      levels = u.levels;
-      cores = u.cores;
-      granted = gs;
-      confirmed = t.confirmed;
-    }) both.0
-    ∙ ap (λ gs. record {
-      levels = u.levels;
-      cores = u.cores;
-      granted = u.granted;
-      confirmed = gs;
-    }) both.1
+    rw (l, c, both.0, both.1) refl
 
 -- the depths are written, and then those that are confirmed
 pub all_saved : (t : TreeValue) (gs cs : List (List ℕ)) (start n : ℕ) (w v u : List ℕ)

@@ -1,19 +1,115 @@
 -- The fields of a tree in memory, and the value that it is seen as.
-use Rattle.std.proofs.Common.{Vec, Global}
-use Rattle.std.proofs.lemmas.List.{length-set}
-use Rattle.psci_tree.proofs.Words.{◌<◌, ◌∙◌, ◌≡◌, ◌≤◌, [], ap, AreKept, arith, cases_eq}
-use Rattle.psci_tree.proofs.Words.{confirmed_at, confirmed_of, CoreState, depth_set, Depths}
-use Rattle.psci_tree.proofs.Words.{get_or, get_or-set_other, get_or-set_same, get_or_default}
-use Rattle.psci_tree.proofs.Words.{granted_at, granted_of, HasNodeIn, inl, inr, IsActivity}
-use Rattle.psci_tree.proofs.Words.{IsDomainTree, IsHeld, IsWayOf, Kept, known_at, length}
-use Rattle.psci_tree.proofs.Words.{length-map, List, map, never_started, Node, place_above, set}
-use Rattle.psci_tree.proofs.Words.{size_below, subst, sym, the_view, TreeValue, unwrap_or, Way}
-use Rattle.psci_tree.proofs.Words.{with_core_state, with_items, with_items_is, ℕ}
-use Rattle.psci_tree.specs.declared.tree.Tree.TheInside.{Inside}
-use Rattle.psci_tree.specs.contracts.tree.Tree.{the_invariant}
-use Rattle.psci_tree.proofs.DepthRows.{DepthRow, depth_row, ReadAt, read_at, depths_written}
+use Rattle.std.proofs.Common.{Global, Vec}
+use Rattle.std.proofs.lemmas.List.{drop_more, length-set}
+use Rattle.psci_board.specs.declared.draft.TheConstants.{MOST_CORES}
 use Rattle.psci_state.specs.declared.cores.Change.{Change}
-use Rattle.psci_tree.specs.Changes.{core_changed}
+use Rattle.psci_tree.specs.Changes.{core_changed, with_confirmed, with_grant}
+use Rattle.psci_tree.specs.Recount.{is_confirmed_at, known}
+use Rattle.psci_tree.specs.contracts.tree.Tree.{the_invariant}
+use Rattle.psci_tree.specs.declared.tree.Tree.TheInside.{Inside}
+use Rattle.psci_tree.proofs.DepthRows.{depth_row, DepthRow, depths_written, read_at, ReadAt}
+use Rattle.psci_tree.proofs.Granted.{at_set, depth_at, is_domain, rows_at, size_of_level}
+use Rattle.psci_tree.proofs.Granted.{zero_at}
+use Rattle.psci_tree.proofs.Words.{◌&&◌, ◌+◌, ◌<◌, ◌==◌, ◌∙◌, ◌∷◌, ◌≡◌, ◌≤◌, []}
+use Rattle.psci_tree.proofs.Words.{Activity, all_off, ap, AreKept, arith, below_in, Bool}
+use Rattle.psci_tree.proofs.Words.{cases_eq, cond, confirmed_at, confirmed_of, CoreState}
+use Rattle.psci_tree.proofs.Words.{depth_set, Depths, drop, false, get_or}
+use Rattle.psci_tree.proofs.Words.{get_or-set_other, get_or-set_same, get_or_default, granted_at}
+use Rattle.psci_tree.proofs.Words.{granted_of, HasNodeIn, inl, inr, IsActivity, IsDomainTree}
+use Rattle.psci_tree.proofs.Words.{IsHeld, IsTree, IsWayOf, Kept, known_at, length, length-map}
+use Rattle.psci_tree.proofs.Words.{length-replicate, level_sizes, List, map, nat_lt, nat_tests}
+use Rattle.psci_tree.proofs.Words.{never_started, Node, place_above, range_with_len}
+use Rattle.psci_tree.proofs.Words.{refl, replicate, set, size_below, span, SpanLaws, state_at}
+use Rattle.psci_tree.proofs.Words.{still_confirmed, subst, suc, sym, take}
+use Rattle.psci_tree.proofs.Words.{the_view, TreeValue, true, unwrap_or, Way, with_core_state}
+use Rattle.psci_tree.proofs.Words.{with_items, with_items_is, with_path_cleared, zero, ℕ}
+
+-- The values of a tree after each change, by core, and by level and place -------------------------
+
+-- another state of one core
+pub core_with : (t : TreeValue) (core : ℕ) (activity : Activity) (known c : ℕ)
+    → core < length t.cores → state_at (with_core_state t core activity known) c
+    ≡ cond (core == c) (record { activity = activity; known = known }) (state_at t c)
+core_with t core activity known c h = at_set t.cores core _ never_started c h
+
+pub granted_with : (t : TreeValue) (core l p : ℕ) → granted_at (with_path_cleared t core) l p
+    ≡ cond (place_above t.levels l core == p) 0 (granted_at t l p)
+granted_with t core l p = zero_at t.levels t.granted core l p
+
+-- no longer confirmed, or as before
+none_or_same : (b : Bool) (x : ℕ) → nat_lt 0 (cond b 0 x) ≡ cond b false (nat_lt 0 x)
+none_or_same b x = grind arith
+
+pub confirmed_with : (t : TreeValue) (core l p : ℕ)
+    → is_confirmed_at (with_path_cleared t core) l p
+    ≡ cond (place_above t.levels l core == p) false (is_confirmed_at t l p)
+confirmed_with t core l p =
+    ap (nat_lt 0) (zero_at t.levels t.confirmed core l p)
+    ∙ none_or_same (place_above t.levels l core == p) (confirmed_at t l p)
+
+-- what stays confirmed at a domain, and what was at the others
+kept_if_same : (at same : Bool) (own x : ℕ) → (at ≡ true → own ≡ x)
+    → nat_lt 0 (cond at (cond same own 0) x) ≡ cond at (same && nat_lt 0 x) (nat_lt 0 x)
+kept_if_same at same own x e = grind arith
+
+-- at the domain itself the granted depth that is read is its own
+own_depth : (t : TreeValue) (n : Node) (depth l p : ℕ) (b : Bool)
+    → cond (n.level == l && n.place == p) ((granted_at t n.level n.place == depth) && b) b
+    ≡ cond (n.level == l && n.place == p) ((granted_at t l p == depth) && b) b
+own_depth t n depth l p b = grind (arith, nat_tests)
+
+pub confirmed_grant : (t : TreeValue) (n : Node) (depth l p : ℕ) → IsDomainTree t
+    → HasNodeIn t.levels n → is_confirmed_at (with_grant t n depth) l p
+    ≡ cond (n.level == l && n.place == p)
+    ((granted_at t l p == depth) && is_confirmed_at t l p) (is_confirmed_at t l p)
+unfolding with_grant
+confirmed_grant t n depth l p v h =
+    let same : Bool = granted_at t n.level n.place == depth in
+    let at : Bool = n.level == l && n.place == p in
+    ap (nat_lt 0) (depth_at t.levels t.confirmed n (still_confirmed t n depth) l p v.confirmed h)
+    ∙ kept_if_same at same (confirmed_at t n.level n.place) (confirmed_at t l p)
+    (λ e. let d = is_domain n l p e in rw (d.0, d.1) refl)
+    ∙ own_depth t n depth l p (is_confirmed_at t l p)
+
+some_or_same : (b : Bool) (d x : ℕ) → 1 ≤ d → nat_lt 0 (cond b d x) ≡ cond b true (nat_lt 0 x)
+some_or_same b d x h = grind (arith, nat_tests)
+
+pub confirmed_now : (t : TreeValue) (n : Node) (l p : ℕ) → IsDomainTree t
+    → HasNodeIn t.levels n → 1 ≤ granted_at t n.level n.place
+    → is_confirmed_at (with_confirmed t n) l p
+    ≡ cond (n.level == l && n.place == p) true (is_confirmed_at t l p)
+unfolding with_confirmed
+confirmed_now t n l p v h some =
+    let depth : ℕ = granted_at t n.level n.place in
+    ap (nat_lt 0) (depth_at t.levels t.confirmed n depth l p v.confirmed h)
+    ∙ some_or_same (n.level == l && n.place == p) depth (confirmed_at t l p) some
+
+pub ruleset confirmed_laws = (confirmed_with, confirmed_grant, confirmed_now)
+
+-- The start of a life ------------------------------------------------------------------------
+
+pub core_off : (levels : List (List ℕ)) (c : ℕ) → state_at (all_off levels) c ≡ never_started
+core_off levels c = filled (size_below levels) c
+  where
+    filled : (n c : ℕ) → get_or (replicate n never_started) c never_started ≡ never_started
+    filled zero c = refl
+    filled (suc n) zero = refl
+    filled (suc n) (suc c) = filled n c
+
+pub granted_off : (levels : List (List ℕ)) (l p : ℕ) → l ≤ length levels
+    → p < size_below (drop l levels) → granted_at (all_off levels) l p ≡ 3
+granted_off levels l p h i =
+    rows_at (level_sizes levels) l p (omega (arith, size_of_level levels l h))
+
+pub confirmed_off : (levels : List (List ℕ)) (l p : ℕ) → l ≤ length levels
+    → p < size_below (drop l levels) → is_confirmed_at (all_off levels) l p ≡ true
+confirmed_off levels l p h i =
+    ap (nat_lt 0) (rows_at (level_sizes levels) l p (omega (arith, size_of_level levels l h)))
+
+pub cores_off : (levels : List (List ℕ)) → length (all_off levels).cores ≡ size_below levels
+cores_off levels = length-replicate (size_below levels) never_started
+
+-- Seen --------------------------------------------------------------------------------------------
 
 -- what the domains keep
 abbrev pub kept_in : Inside → List (List Kept)
@@ -161,3 +257,27 @@ pub core_value : (rows : List (List Kept)) (ways : List Way) (t : TreeValue) (co
 core_value rows ways t core x s change now h l e d n =
     let there : core < length t.cores = omega (arith, h.tied.valid.cores) in
     rw (n, d, e ∙ get_or_default t.cores core x never_started there)
+
+-- The states of the cores below a node are a slice of those of all cores --------------------------
+
+-- a run of numbers as places of a list
+pick_run : {X : Type 0} (xs : List X) (d : X) (a k : ℕ) → a + k ≤ length xs
+    → map (λ c. get_or xs c d) (range_with_len a k) ≡ take k (drop a xs)
+pick_run xs d a zero h = refl
+pick_run xs d a (suc k) h =
+    rw (drop_more xs a d (omega arith))
+    (ap (λ ys. get_or xs a d ∷ ys) (pick_run xs d (a + 1) k (omega arith)))
+
+-- the states of the cores below a domain are a slice of those of all cores
+pub states_slice : (t : TreeValue) (n : Node) → SpanLaws t.levels
+    → length t.cores ≡ size_below t.levels → HasNodeIn t.levels n
+    → map (λ c. state_at t c) (below_in t.levels n)
+    ≡ take (span t.levels n).count (drop (span t.levels n).first t.cores)
+states_slice t n laws same h =
+    ap (map (λ c. state_at t c)) (laws.cores n h)
+    ∙ pick_run t.cores never_started (span t.levels n).first (span t.levels n).count
+    (omega (arith, laws.inside n h))
+
+pub size_few : (levels : List (List ℕ)) → IsTree levels → size_below levels ≤ MOST_CORES
+size_few [] t = omega arith
+size_few (w ∷ ws) t = t.1

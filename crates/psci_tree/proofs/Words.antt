@@ -1,8 +1,7 @@
 -- The words of std and of definitions that proofs here speak in.
-pub use Rattle.std.proofs.Common.{◌*◌, ◌&&◌, ◌++◌, ◌+◌, ◌-◌, ◌<◌, ◌==◌, ◌^◌, ◌∙◌, ◌∷◌, ◌≡◌, ◌≢◌}
-pub use Rattle.std.proofs.Common.{◌≤◌, []}
-pub use Rattle.std.proofs.Common.{add-one, ap, append-nil, append_assoc, arith, Bool, cond, drop}
-pub use Rattle.std.proofs.Common.{drop-cons, false, filter, get_or, inl, inr, leb, length}
+pub use Rattle.std.proofs.Common.{◌&&◌, ◌*◌, ◌++◌, ◌+◌, ◌-◌, ◌<◌, ◌==◌, ◌^◌, ◌∙◌, ◌∷◌, ◌≡◌, ◌≢◌}
+pub use Rattle.std.proofs.Common.{◌≤◌, [], add-one, ap, append-nil, append_assoc, arith, Bool, cond}
+pub use Rattle.std.proofs.Common.{drop, drop-cons, false, filter, get_or, inl, inr, leb, length}
 pub use Rattle.std.proofs.Common.{length-append, List, map, min, nat_lt, not, refl, replicate}
 pub use Rattle.std.proofs.Common.{rules, Some, subst, suc, sum, sym, take, true, zero, ℕ}
 pub use Rattle.std.proofs.Math.ListN.{length-set, set}
@@ -22,13 +21,12 @@ pub use Rattle.std.proofs.lemmas.List.Sums.{sum_by-append, sum_by-cons}
 pub use Rattle.std.specs.List.{AllPass, count_by, flat_map, range_with_len, sum_by}
 pub use Rattle.std.specs.Prelude.{unwrap_or}
 pub use Rattle.std.specs.Vec.{with_item, with_items}
-pub use Rattle.psci_board.proofs.Groups.{Counted, counted, sum-cons}
-pub use Rattle.psci_board.proofs.Levels.{level}
+pub use Rattle.psci_board.proofs.More.{Counted, counted, level, sum-cons}
 pub use Rattle.psci_board.proofs.Paths.{inside, place_above-suc}
 pub use Rattle.psci_board.specs.Board.{below_in, BoardValue, first_core, group_of, HasNodeIn}
 pub use Rattle.psci_board.specs.Board.{index_in, is_width, IsTree, place_above, size_below, span}
-pub use Rattle.psci_board.specs.Laws.{SpanLaws}
-pub use Rattle.psci_board.specs.declared.node.Node.{Node}
+pub use Rattle.psci_board.specs.Board.{SpanLaws}
+pub use Rattle.psci_board.specs.declared.draft.Node.{Node}
 pub use Rattle.psci_state.specs.declared.cores.Activity.{Activity}
 pub use Rattle.psci_state.specs.declared.cores.Activity.TheVariants.{Active}
 pub use Rattle.psci_state.specs.declared.cores.CoreState.{CoreState}

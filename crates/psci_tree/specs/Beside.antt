@@ -1,7 +1,7 @@
 -- What a tree keeps of its cores and domains, where every core is off.
 use Rattle.std.specs.Prelude.{◌≡◌, map, replicate}
 use Rattle.psci_board.specs.Board.{BoardValue, IsBoard, size_below}
-use Rattle.psci_state.specs.Ask.{power_down}
+use Rattle.psci_state.specs.PowerState.{power_down}
 use Rattle.psci_tree.specs.Changes.{rows_with_depth}
 use Rattle.psci_tree.specs.DepthRows.{confirmed_of, granted_of}
 use Rattle.psci_tree.specs.Kept.{AreKept}

@@ -1,14 +1,14 @@
 -- What a call changes in a tree of power domains.
-use Rattle.std.specs.Prelude.{◌≡◌, ℕ, ◌+◌, ◌-◌, ◌<◌, ◌≤◌, List, [], ◌∷◌, length}
-use Rattle.std.specs.Prelude.{map, replicate, slice_set, slice_index_or, ◌==◌, if◌then◌else◌}
-use Rattle.psci_board.specs.declared.node.Node.{Node}
+use Rattle.std.specs.Prelude.{◌+◌, ◌-◌, ◌<◌, ◌==◌, ◌∷◌, ◌≡◌, ◌≤◌, [], if◌then◌else◌, length}
+use Rattle.std.specs.Prelude.{List, map, replicate, slice_index_or, slice_set, ℕ}
+use Rattle.psci_board.specs.declared.draft.Node.{Node}
 use Rattle.psci_board.specs.Board.{size_below, group_of, place_above}
-use Rattle.psci_state.specs.Ask.{power_down}
+use Rattle.psci_state.specs.PowerState.{power_down}
 use Rattle.psci_state.specs.declared.cores.Activity.{Activity}
 use Rattle.psci_state.specs.declared.cores.Activity.TheVariants.{Active, Suspended, Away}
 pub use Rattle.psci_state.specs.Cores.{core_changed}
-use Rattle.psci_tree.specs.Recount.{TreeValue, never_started, known_at, granted_at, level_sizes}
-use Rattle.psci_tree.specs.Recount.{confirmed_at}
+use Rattle.psci_tree.specs.Recount.{confirmed_at, granted_at, known_at, level_sizes}
+use Rattle.psci_tree.specs.Recount.{never_started, TreeValue}
 
 -- another state of one core
 abbrev pub with_core_state : TreeValue → ℕ → Activity → ℕ → TreeValue

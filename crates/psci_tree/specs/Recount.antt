@@ -1,12 +1,12 @@
 -- What is counted over the cores below a power domain, and what holds of a tree.
 use Rattle.std.specs.Prelude.{◌≡◌, ℕ, ◌+◌, ◌<◌, ◌≤◌, List, [], ◌∷◌, length, map}
 use Rattle.std.specs.List.{sum_by, count_by}
-use Rattle.psci_state.specs.Ask.{power_down}
-pub use Rattle.psci_state.specs.Ask.{least}
-pub use Rattle.psci_state.specs.Cores.{TreeValue, IsActivity, asks, is_active, is_away}
-pub use Rattle.psci_state.specs.Cores.{never_started, state_at, ask_at, known_at, is_active_at}
-pub use Rattle.psci_state.specs.Cores.{is_away_at, granted_at, confirmed_at, is_confirmed_at}
-use Rattle.psci_board.specs.declared.node.Node.{Node}
+use Rattle.psci_state.specs.PowerState.{power_down}
+pub use Rattle.psci_state.specs.PowerState.{least}
+pub use Rattle.psci_state.specs.Cores.{ask_at, asks, confirmed_at, granted_at, is_active}
+pub use Rattle.psci_state.specs.Cores.{is_active_at, is_away, is_away_at, is_confirmed_at}
+pub use Rattle.psci_state.specs.Cores.{IsActivity, known_at, never_started, state_at, TreeValue}
+use Rattle.psci_board.specs.declared.draft.Node.{Node}
 use Rattle.psci_board.specs.Board.{size_below, place_above, below_in, IsTree}
 
 -- Below a domain -------------------------------------------------------------------------------

@@ -1,13 +1,12 @@
 -- A tree of power domains as words of 64 bits, and which words are those of some tree.
-use Rattle.std.specs.Prelude.{◌≡◌, ℕ, ◌+◌, ◌<◌, ◌*◌, ◌^◌, ◌==◌, ◌&&◌, Bool, true, false, nat_lt}
-use Rattle.std.specs.Prelude.{nat_le, if◌then◌else◌, List, [], ◌∷◌, ◌++◌, length, take, drop, sum}
-use Rattle.std.specs.Prelude.{flat_map, slice_index, slice_index_or, is_some, Option, None, Some}
-use Rattle.std.specs.Prelude.{Result, Ok, Err}
+use Rattle.std.specs.Prelude.{◌&&◌, ◌*◌, ◌++◌, ◌+◌, ◌<◌, ◌==◌, ◌^◌, ◌∷◌, ◌≡◌, [], Bool, drop}
+use Rattle.std.specs.Prelude.{Err, false, flat_map, if◌then◌else◌, is_some, length, List, nat_le}
+use Rattle.std.specs.Prelude.{nat_lt, None, Ok, Option, Result, slice_index, slice_index_or}
+use Rattle.std.specs.Prelude.{Some, sum, take, true, ℕ}
 use Rattle.std.specs.List.{All, list_all, range_with_len}
 use Rattle.psci_board.specs.Board.{place_above, size_below}
-use Rattle.psci_board.specs.psci_abi.declared.format.Format.TheVariants.{Extended}
-use Rattle.psci_state.specs.Ask.{power_down}
-use Rattle.psci_state.specs.PowerState.{ask_of, word_of}
+use Rattle.psci_board.specs.psci_abi.declared.registers.Format.TheVariants.{Extended}
+use Rattle.psci_state.specs.PowerState.{ask_of, power_down, word_of}
 use Rattle.psci_state.specs.declared.cores.Activity.{Activity}
 use Rattle.psci_state.specs.declared.cores.Activity.TheVariants.{Active, Suspended, Away}
 use Rattle.psci_state.specs.declared.cores.CoreState.{CoreState}

@@ -1,6 +1,6 @@
 -- The domains on the path of a core, whose standing a claim is made of.
 use Rattle.std.specs.Prelude.{ℕ, List}
-use Rattle.psci_board.specs.declared.node.Node.{Node}
+use Rattle.psci_board.specs.declared.draft.Node.{Node}
 use Rattle.psci_board.specs.Board.{place_above}
 
 -- the domain of this level on the path of a core

@@ -3,9 +3,9 @@
 ghost use Rattle.std.specs.Prelude.{◌≡◌, ◌<◌, ◌≤◌, unwrap_or};
 ghost use Rattle.psci_board.specs.Board.{size_below, HasNodeIn};
 ghost use Rattle.psci_tree.specs.Recount.{IsActivity, IsDomainTree, granted_at, known_at};
-ghost use Rattle.psci_tree.specs.Changes.{MayGrant, suspended, turned_off, made_pending, started};
-ghost use Rattle.psci_tree.specs.Changes.{with_grant, with_confirmed, with_core_state};
-ghost use Rattle.psci_tree.specs.Changes.{with_path_cleared, all_off, start_of_life};
+ghost use Rattle.psci_tree.specs.Changes.{all_off, made_pending, MayGrant, start_of_life, started};
+ghost use Rattle.psci_tree.specs.Changes.{suspended, turned_off, with_confirmed, with_core_state};
+ghost use Rattle.psci_tree.specs.Changes.{with_grant, with_path_cleared};
 
 use crate::core_change::change_core;
 use crate::depths::Depths;

@@ -1,6 +1,7 @@
 //! The depths of a power domain.
 
 ghost use Rattle.std.specs.Prelude.{◌≡◌, ◌==◌, if◌then◌else◌};
+ghost use Rattle.psci_tree.specs.DepthRows.{depth_of};
 
 use psci_state::POWER_DOWN;
 
@@ -11,6 +12,15 @@ pub struct Depths {
     pub granted: u8,
     /// The depth that is confirmed, 0 where none is.
     pub confirmed: u8,
+}
+
+/// One of the two depths of a power domain.
+#[derive(Clone, Copy)]
+pub enum Which {
+    /// What it was granted.
+    Granted,
+    /// What of it is confirmed.
+    Confirmed,
 }
 
 impl Depths {
@@ -51,6 +61,16 @@ impl Depths {
         Depths {
             granted: self.granted,
             confirmed: self.granted,
+        }
+    }
+
+    /// One of the two.
+    pub fn get(self, which: Which) -> u8
+        ensures { result ≡ depth_of which self }
+    {
+        match which {
+            Which::Granted => self.granted,
+            Which::Confirmed => self.confirmed,
         }
     }
 }

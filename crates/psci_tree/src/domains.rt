@@ -1,13 +1,12 @@
 //! What the power domains above the cores keep: a row for each level.
 
-ghost use Rattle.std.specs.Prelude.{◌≡◌, ◌<◌, ◌≤◌, ◌∷◌, [], drop, length, map, replicate, IfOk};
+ghost use Rattle.std.specs.Prelude.{◌<◌, ◌∷◌, ◌≡◌, ◌≤◌, [], drop, IfOk, length, map, replicate};
 ghost use Rattle.std.specs.Prelude.{slice_index_or};
 ghost use Rattle.psci_board.specs.Board.{HasNode, IsBoard, height, size_below, span};
 ghost use Rattle.psci_state.specs.declared.cores.CoreState.{CoreState};
 ghost use Rattle.psci_tree.specs.Recount.{never_started};
-ghost use Rattle.psci_tree.specs.Kept.{AreKept, IsOffRow, Keeps, MayExchange, gone, kept_at};
-ghost use Rattle.psci_tree.specs.Kept.{kept_exchanged};
-ghost use Rattle.psci_tree.specs.Kept.{level_kept, with_kept};
+ghost use Rattle.psci_tree.specs.Kept.{AreKept, gone, IsOffRow, Keeps, kept_at, kept_exchanged};
+ghost use Rattle.psci_tree.specs.Kept.{level_kept, MayExchange, with_kept};
 
 use crate::kept::Kept;
 use psci_board::{Board, Memory, Node, law_spans};

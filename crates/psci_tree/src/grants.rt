@@ -1,7 +1,7 @@
 //! What is granted and confirmed: a row of depths for each level of a board.
 
-ghost use Rattle.std.specs.Prelude.{◌≡◌, ◌<◌, ◌≤◌, [], map, length};
-ghost use Rattle.std.specs.Prelude.{slice_index_or, slice_set, IfOk};
+ghost use Rattle.std.specs.Prelude.{◌<◌, ◌≡◌, ◌≤◌, [], IfOk, length, map, slice_index_or};
+ghost use Rattle.std.specs.Prelude.{slice_set};
 ghost use Rattle.psci_board.specs.Board.{height};
 ghost use Rattle.psci_tree.specs.declared.depths.Depths.{Depths};
 ghost use Rattle.psci_tree.specs.Changes.{path_cleared, rows_with_depth};

@@ -44,7 +44,7 @@ impl Kept {
     }
 
     /// What is kept of so many cores that are off and were never started, at any level.
-    #[tactic(auto, using(crate::proofs::OffOnes::kept_never))]
+    #[tactic(auto, using(crate::proofs::Gone::kept_never))]
     pub fn never_started(count: u16) -> Kept
         ensures { (level : ℕ) → Keeps level result (replicate count never_started) }
     {

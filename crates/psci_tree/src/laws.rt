@@ -1,29 +1,14 @@
 //! What holds of the definitions alone: each law is the contract of a function that does nothing.
 
-ghost use Rattle.std.specs.Prelude.{◌≡◌, ℕ, ◌+◌, ◌<◌, ◌≤◌, ◌==◌, ◌&&◌, true, false, if◌then◌else◌};
-ghost use Rattle.std.specs.Prelude.{List, length, map, take, drop};
-ghost use Rattle.std.specs.List.{sum_by};
-ghost use Rattle.psci_board.specs.declared.node.Node.{Node};
-ghost use Rattle.psci_board.specs.Board.{HasNodeIn, size_below, place_above, below_in, span};
+ghost use Rattle.std.specs.Prelude.{◌&&◌, ◌<◌, ◌==◌, ◌≡◌, ◌≤◌, drop, false, if◌then◌else◌, length};
+ghost use Rattle.std.specs.Prelude.{List, true, ℕ};
+ghost use Rattle.psci_board.specs.declared.draft.Node.{Node};
+ghost use Rattle.psci_board.specs.Board.{HasNodeIn, size_below, place_above};
 ghost use Rattle.psci_state.specs.declared.cores.Activity.TheVariants.{Active, Suspended, Away};
-ghost use Rattle.psci_tree.specs.Recount.{TreeValue, IsDomainTree, active, ask_at, state_at};
-ghost use Rattle.psci_tree.specs.Recount.{granted_at, is_active_at, is_away_at, known, known_at};
-ghost use Rattle.psci_tree.specs.Recount.{is_confirmed_at, low, never_started, off};
-ghost use Rattle.psci_tree.specs.Changes.{start_of_life, made_pending, started, suspended};
-ghost use Rattle.psci_tree.specs.Changes.{turned_off, with_grant, with_confirmed};
-
-use psci_board::law_spans;
-
-/// The states of the cores below a domain stand side by side among those of all cores, as the cores
-/// do on the board.
-#[tactic(auto, using(crate::proofs::Slices::states_slice))]
-pub fn law_states()
-    ensures { (t : TreeValue) (n : Node) → IsDomainTree t → HasNodeIn t.levels n
-        → map (λ c. state_at t c) (below_in t.levels n)
-        ≡ take (span t.levels n).count (drop (span t.levels n).first t.cores) }
-{
-    law_spans();
-}
+ghost use Rattle.psci_tree.specs.Recount.{granted_at, is_confirmed_at, IsDomainTree, known_at};
+ghost use Rattle.psci_tree.specs.Recount.{never_started, state_at, TreeValue};
+ghost use Rattle.psci_tree.specs.Changes.{made_pending, start_of_life, started, suspended};
+ghost use Rattle.psci_tree.specs.Changes.{turned_off, with_confirmed, with_grant};
 
 /// The state of each core after each change: that of the named core alone is another one.
 pub fn law_cores()
@@ -95,76 +80,4 @@ pub fn law_start_of_life()
     ensures confirmed { (levels : List (List ℕ)) (l p : ℕ) → l ≤ length levels
         → p < size_below (drop l levels) → is_confirmed_at (start_of_life levels) l p
         ≡ (if place_above levels l 0 == p then false else true) }
-{}
-
-/// What a core of any tree asks: at no level more than at the one below it, and of its own level
-/// something, unless it is active; nothing where it is active, and nothing above the height.
-#[tactic(auto, using(crate::proofs::Asks::asks_laws))]
-pub fn law_asks()
-    ensures active { (t : TreeValue) (c level : ℕ) → is_active_at t c ≡ true
-        → ask_at t c level ≡ 0 }
-    ensures some { (t : TreeValue) (c : ℕ) → IsDomainTree t → is_active_at t c ≡ false
-        → 1 ≤ ask_at t c 0 }
-    ensures most { (t : TreeValue) (c level : ℕ) → IsDomainTree t → ask_at t c level ≤ 3 }
-    ensures falls { (t : TreeValue) (c level : ℕ) → IsDomainTree t
-        → ask_at t c (level + 1) ≤ ask_at t c level }
-    ensures above { (t : TreeValue) (c level : ℕ) → length t.levels < level
-        → ask_at t c level ≡ 0 }
-{}
-
-/// The least ask below a domain is at most each ask below it, and no other depth that is so is
-/// greater. It is at most 3, and at no level more than at the one below it.
-#[tactic(auto, using(crate::proofs::Asks::low_laws))]
-pub fn law_low()
-    ensures each { (t : TreeValue) (n : Node) (level c : ℕ) → c < size_below t.levels
-        → place_above t.levels n.level c ≡ n.place → low t n level ≤ ask_at t c level }
-    ensures greatest { (t : TreeValue) (n : Node) (level least : ℕ) → least ≤ 3
-        → ((c : ℕ) → c < size_below t.levels → place_above t.levels n.level c ≡ n.place
-        → least ≤ ask_at t c level)
-        → least ≤ low t n level }
-    ensures most { (t : TreeValue) (n : Node) (level : ℕ) → low t n level ≤ 3 }
-    ensures falls { (t : TreeValue) (n : Node) (level : ℕ) → IsDomainTree t
-        → low t n (level + 1) ≤ low t n level }
-{}
-
-/// The known starts below a domain are summed, each core's own once: the sum of a core is its own,
-/// trees whose cores below have the same known starts have the same sum, and one start changes the
-/// sums on the core's path by what it changes of the core, and no others.
-#[tactic(auto, using(crate::proofs::Looked::known_laws), unfolding(crate::specs::Recount::known))]
-pub fn law_known()
-    ensures sum { (t : TreeValue) (n : Node)
-        → known t n ≡ sum_by (λ c. known_at t c) (below_in t.levels n) }
-    ensures core { (t : TreeValue) (c : ℕ) → IsDomainTree t → c < size_below t.levels
-        → known t (record { level = 0; place = c }) ≡ known_at t c }
-    ensures same { (t u : TreeValue) (n : Node) → u.levels ≡ t.levels
-        → ((c : ℕ) → c < size_below t.levels → place_above t.levels n.level c ≡ n.place
-        → known_at u c ≡ known_at t c)
-        → known u n ≡ known t n }
-    ensures started { (t : TreeValue) (core number : ℕ) (n : Node) → IsDomainTree t
-        → core < size_below t.levels → place_above t.levels n.level core ≡ n.place
-        → known (started t core number) n + known_at t core ≡ known t n + number }
-    ensures elsewhere { (t : TreeValue) (core number : ℕ) (n : Node) → IsDomainTree t
-        → core < size_below t.levels → (place_above t.levels n.level core ≡ n.place → ⊥)
-        → known (started t core number) n ≡ known t n }
-{
-    law_spans();
-}
-
-/// No core below a domain is active exactly where the count is 0; every core below is off exactly
-/// where the count is that of the cores below.
-#[tactic(auto, using(crate::proofs::Bounds::count_laws))]
-pub fn law_counts()
-    ensures active { (t : TreeValue) (n : Node) (c : ℕ) → active t n ≡ 0 → c < size_below t.levels
-        → place_above t.levels n.level c ≡ n.place → is_active_at t c ≡ false }
-    ensures inactive { (t : TreeValue) (n : Node)
-        → ((c : ℕ) → c < size_below t.levels → place_above t.levels n.level c ≡ n.place
-        → is_active_at t c ≡ false)
-        → active t n ≡ 0 }
-    ensures off { (t : TreeValue) (n : Node) (c : ℕ) → off t n ≡ length (below_in t.levels n)
-        → c < size_below t.levels → place_above t.levels n.level c ≡ n.place
-        → is_away_at t c ≡ true }
-    ensures all_off { (t : TreeValue) (n : Node)
-        → ((c : ℕ) → c < size_below t.levels → place_above t.levels n.level c ≡ n.place
-        → is_away_at t c ≡ true)
-        → off t n ≡ length (below_in t.levels n) }
 {}

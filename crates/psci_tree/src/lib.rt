@@ -35,10 +35,7 @@ mod tree;
 mod tree_words;
 mod way;
 
-pub use laws::{
-    law_asks, law_confirmed, law_cores, law_counts, law_granted, law_known, law_low,
-    law_start_of_life, law_states,
-};
+pub use laws::{law_confirmed, law_cores, law_granted, law_start_of_life};
 pub use psci_state::Activity;
 pub use saved_laws::law_tree_words;
 pub use standing::Standing;

@@ -6,8 +6,8 @@ ghost use Rattle.psci_board.specs.Board.{size_below};
 ghost use Rattle.psci_state.specs.declared.cores.Activity.{Activity};
 ghost use Rattle.psci_tree.specs.DepthRows.{confirmed_of, granted_of};
 ghost use Rattle.psci_tree.specs.Recount.{IsActivity};
-ghost use Rattle.psci_tree.specs.Saved.{KeepsDepths, activity_of, activity_word, are_cores};
-ghost use Rattle.psci_tree.specs.Saved.{core_words, rows_of};
+ghost use Rattle.psci_tree.specs.Saved.{activity_of, activity_word, are_cores, core_words};
+ghost use Rattle.psci_tree.specs.Saved.{KeepsDepths, rows_of};
 
 use crate::depths::Depths;
 use crate::saving::AWAY;

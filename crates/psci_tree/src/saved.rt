@@ -1,14 +1,15 @@
 //! A tree saved and loaded: the methods that write its words and read them.
 
 ghost use Rattle.std.specs.Prelude.{◌≡◌, ◌≤◌, ◌+◌, ◌*◌, ◌^◌, ◌++◌, true, drop, flat_map, length};
-ghost use Rattle.std.specs.Prelude.{take};
+ghost use Rattle.std.specs.Prelude.{sum, take};
 ghost use Rattle.psci_board.specs.Board.{size_below};
-ghost use Rattle.psci_tree.specs.Recount.{IsDomainTree};
+ghost use Rattle.psci_tree.specs.Recount.{IsDomainTree, level_sizes};
 ghost use Rattle.psci_tree.specs.Saved.{AreCounted, KeepsDepths, are_cores, are_depths, core_words};
 ghost use Rattle.psci_tree.specs.Saved.{depth_words, domain_count, with_depths};
 
+use crate::depths::Which;
 use crate::loading::{load_cores, load_rows};
-use crate::saving::{save_confirmed, save_cores, save_granted};
+use crate::saving::{save_cores, save_rows};
 use crate::tree::Tree;
 use crate::tree_words::are_depths;
 use psci_board::{Board, law_sizes};
@@ -27,7 +28,7 @@ impl Tree {
         ensures count { result ≡ domain_count self.now.levels }
         ensures few { result ≤ 2 ^ 18 }
     {
-        count_domains(&self.board)
+        self.domains_below(self.height() + 1)
     }
 
     /// The level of the system.
@@ -38,12 +39,13 @@ impl Tree {
         self.board.height()
     }
 
-    /// How many domains a level has.
-    pub(crate) fn nodes(&self, level: u32) -> u16
-        requires { level ≤ length self.now.levels }
-        ensures { result ≡ size_below (drop level self.now.levels) }
+    /// How many domains are below a level.
+    pub(crate) fn domains_below(&self, level: u32) -> usize
+        requires { level ≤ length self.now.levels + 1 }
+        ensures count { result ≡ sum (take level (level_sizes self.now.levels)) }
+        ensures few { result ≤ 2 ^ 18 }
     {
-        self.board.nodes(level)
+        count_below(&self.board, level)
     }
 
     /// Writes what each core does and its known start, from this place on: two words for each core.
@@ -75,8 +77,13 @@ impl Tree {
         ensures { take (start + 2 * domain_count self.now.levels) words.new
             ≡ take start words.old ++ depth_words self.now }
     {
-        save_granted(&self.depths, words, start);
-        save_confirmed(&self.depths, words, start + self.domain_count());
+        save_rows(&self.depths, Which::Granted, words, start);
+        save_rows(
+            &self.depths,
+            Which::Confirmed,
+            words,
+            start + self.domain_count(),
+        );
     }
 
     /// Whether these are the words of the depths of its domains: no domain on the path of a core is
@@ -100,14 +107,16 @@ impl Tree {
     }
 }
 
-/// How many power domains a board has.
-fn count_domains(board: &Board) -> usize
-    ensures count { result ≡ domain_count board.now.levels }
+/// How many power domains a board has below a level.
+fn count_below(board: &Board, end: u32) -> usize
+    requires { end ≤ length board.now.levels + 1 }
+    ensures count { result ≡ sum (take end (level_sizes board.now.levels)) }
     ensures few { result ≤ 2 ^ 18 }
 {
     law_sizes();
+    let _height = board.height();
     let mut count = 0;
-    for level in 0..board.height() + 1 {
+    for level in 0..end {
         count += board.nodes(level) as usize;
     }
     count

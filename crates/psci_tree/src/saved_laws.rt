@@ -1,11 +1,10 @@
 //! The law of a tree as words: the contract of a function that does nothing.
 
-ghost use Rattle.std.specs.Prelude.{◌≡◌, ◌*◌, true, flat_map, length};
+ghost use Rattle.std.specs.Prelude.{◌*◌, ◌≡◌, flat_map, length, List, true};
 ghost use Rattle.psci_state.specs.declared.cores.CoreState.{CoreState};
-ghost use Rattle.std.specs.Prelude.{List};
 ghost use Rattle.psci_tree.specs.Recount.{TreeValue, IsDomainTree};
-ghost use Rattle.psci_tree.specs.Saved.{AreCounted, are_cores, are_depths, core_words};
-ghost use Rattle.psci_tree.specs.Saved.{depth_words, domain_count};
+ghost use Rattle.psci_tree.specs.Saved.{are_cores, are_depths, AreCounted, core_words, depth_words};
+ghost use Rattle.psci_tree.specs.Saved.{domain_count};
 
 use psci_state::law_power_states;
 

@@ -1,10 +1,10 @@
 //! A tree as words: its cores, and the depths of its power domains.
 
 ghost use Rattle.std.specs.Prelude.{◌≡◌, ◌≤◌, ◌+◌, ◌*◌, ◌++◌, flat_map, length, map, take};
-ghost use Rattle.psci_tree.specs.DepthRows.{confirmed_of, granted_of};
+ghost use Rattle.psci_tree.specs.DepthRows.{depth_of, read};
 ghost use Rattle.psci_tree.specs.Saved.{AreCounted, activity_word, core_words};
 
-use crate::depths::Depths;
+use crate::depths::{Depths, Which};
 use psci_board::Format;
 use psci_state::{Activity, CoreState};
 
@@ -39,56 +39,29 @@ fn activity_word(activity: Activity) -> u64
     }
 }
 
-/// Writes what was granted to each domain, from this place on.
-pub fn save_granted(rows: &[Vec<Depths>], words: &mut [u64], start: usize)
-    requires { start + length (flat_map (λ row. row) (granted_of (map (λ v. v.items) rows.now)))
+/// Writes one of the depths of each domain, from this place on.
+pub fn save_rows(rows: &[Vec<Depths>], which: Which, words: &mut [u64], start: usize)
+    requires { start + length (flat_map (λ row. row) (read which (map (λ v. v.items) rows.now)))
         ≤ length words.old }
     ensures { take (start + length (flat_map (λ row. row)
-        (granted_of (map (λ v. v.items) rows.now)))) words.new ≡ take start words.old
-        ++ flat_map (λ row. row) (granted_of (map (λ v. v.items) rows.now)) }
+        (read which (map (λ v. v.items) rows.now)))) words.new ≡ take start words.old
+        ++ flat_map (λ row. row) (read which (map (λ v. v.items) rows.now)) }
 {
     let mut next = start;
     for level in 0..rows.len() {
         let row = &rows[level];
-        save_granted_row(row, words, next);
+        save_row(row, which, words, next);
         next += row.len();
     }
 }
 
 /// The same of the domains of one level.
-fn save_granted_row(row: &[Depths], words: &mut [u64], start: usize)
+fn save_row(row: &[Depths], which: Which, words: &mut [u64], start: usize)
     requires { start + length row.now ≤ length words.old }
     ensures { take (start + length row.now) words.new
-        ≡ take start words.old ++ map (λ d. d.granted) row.now }
+        ≡ take start words.old ++ map (depth_of which) row.now }
 {
     for place in 0..row.len() {
-        words[start + place] = u64::from(row[place].granted);
-    }
-}
-
-/// Writes what is confirmed of each domain, from this place on.
-pub fn save_confirmed(rows: &[Vec<Depths>], words: &mut [u64], start: usize)
-    requires { start + length (flat_map (λ row. row)
-        (confirmed_of (map (λ v. v.items) rows.now))) ≤ length words.old }
-    ensures { take (start + length (flat_map (λ row. row)
-        (confirmed_of (map (λ v. v.items) rows.now)))) words.new ≡ take start words.old
-        ++ flat_map (λ row. row) (confirmed_of (map (λ v. v.items) rows.now)) }
-{
-    let mut next = start;
-    for level in 0..rows.len() {
-        let row = &rows[level];
-        save_confirmed_row(row, words, next);
-        next += row.len();
-    }
-}
-
-/// The same of the domains of one level.
-fn save_confirmed_row(row: &[Depths], words: &mut [u64], start: usize)
-    requires { start + length row.now ≤ length words.old }
-    ensures { take (start + length row.now) words.new
-        ≡ take start words.old ++ map (λ d. d.confirmed) row.now }
-{
-    for place in 0..row.len() {
-        words[start + place] = u64::from(row[place].confirmed);
+        words[start + place] = u64::from(row[place].get(which));
     }
 }

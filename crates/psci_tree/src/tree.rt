@@ -57,9 +57,9 @@ impl Model for Tree {
 
 ghost use Rattle.std.specs.Prelude.{◌≡◌, ℕ, ◌<◌, ◌≤◌, map, length, IfOk, slice_index};
 ghost use Rattle.psci_board.specs.Board.{BoardValue, IsBoard, size_below, HasNodeIn, below_in};
-ghost use Rattle.psci_board.specs.declared.node.Node.{Node};
-ghost use Rattle.psci_tree.specs.Recount.{IsDomainTree, state_at, known_at, low, known, active};
-ghost use Rattle.psci_tree.specs.Recount.{off, granted_at, confirmed_at, is_confirmed_at};
+ghost use Rattle.psci_board.specs.declared.draft.Node.{Node};
+ghost use Rattle.psci_tree.specs.Recount.{active, confirmed_at, granted_at, is_confirmed_at};
+ghost use Rattle.psci_tree.specs.Recount.{IsDomainTree, known, known_at, low, off, state_at};
 ghost use Rattle.psci_tree.specs.Beside.{AreFull};
 ghost use Rattle.psci_tree.specs.Changes.{all_off, start_of_life};
 ghost use Rattle.psci_tree.specs.Kept.{Keeps};

@@ -2,15 +2,16 @@
 
 ghost use Rattle.std.specs.Prelude.{◌≡◌, ◌<◌, nat_le, length};
 ghost use Rattle.std.specs.List.{list_all};
-ghost use Rattle.psci_board.specs.Board.{size_below};
-ghost use Rattle.psci_state.specs.Ask.{power_down};
+ghost use Rattle.psci_board.specs.Board.{HasNodeIn, size_below};
+ghost use Rattle.psci_state.specs.PowerState.{power_down};
 ghost use Rattle.psci_tree.specs.Recount.{level_sizes};
 ghost use Rattle.psci_tree.specs.Saved.{are_cores, are_depths, are_depths_by, are_nested};
-ghost use Rattle.psci_tree.specs.Saved.{are_sure, domain_count, is_core, is_nested, rows_of};
+ghost use Rattle.psci_tree.specs.Saved.{are_sure, depth_in, domain_count, is_core, is_nested};
+ghost use Rattle.psci_tree.specs.Saved.{is_nested_at, rows_of};
 
 use crate::loading::activity_of;
 use crate::tree::Tree;
-use psci_board::Core;
+use psci_board::{Core, Node};
 use psci_state::POWER_DOWN;
 
 /// Known starts have 32 bits.
@@ -67,12 +68,7 @@ fn are_sure(granted: &[u64], confirmed: &[u64]) -> bool
     requires { length confirmed.now ≡ length granted.now }
     ensures { result ≡ are_sure granted.now confirmed.now }
 {
-    for place in 0..granted.len() {
-        if confirmed[place] > granted[place] {
-            return false;
-        }
-    }
-    true
+    (0..granted.len()).all(|place| confirmed[place] <= granted[place])
 }
 
 /// Whether no domain on the path of a core is granted more than the one below it.
@@ -81,12 +77,7 @@ fn are_nested(tree: &Tree, granted: &[u64]) -> bool
     ensures { result ≡ are_nested tree.now.levels
         (rows_of (level_sizes tree.now.levels) granted.now) }
 {
-    for number in 0..tree.core_count() {
-        if !is_nested(tree, granted, Core { number }) {
-            return false;
-        }
-    }
-    true
+    (0..tree.core_count()).all(|number| is_nested(tree, granted, Core { number }))
 }
 
 /// The same of the path of one core.
@@ -96,16 +87,28 @@ fn is_nested(tree: &Tree, granted: &[u64], core: Core) -> bool
     ensures { result ≡ is_nested tree.now.levels
         (rows_of (level_sizes tree.now.levels) granted.now) core.number }
 {
-    let places = tree.places(core);
-    let mut start = 0;
-    for level in 0..tree.height() {
-        let above = start + tree.nodes(level) as usize;
-        let own = start + places[level as usize] as usize;
-        let parent = above + places[level as usize + 1] as usize;
-        if granted[parent] > granted[own] {
-            return false;
-        }
-        start = above;
-    }
-    true
+    (0..tree.height()).all(|level| is_nested_at(tree, granted, core, level))
+}
+
+/// Whether the domain above this level on the path of a core is granted no more than the one at it.
+fn is_nested_at(tree: &Tree, granted: &[u64], core: Core, level: u32) -> bool
+    requires count { length granted.now ≡ domain_count tree.now.levels }
+    requires core { core.number < size_below tree.now.levels }
+    requires level { level < length tree.now.levels }
+    ensures { result ≡ is_nested_at tree.now.levels
+        (rows_of (level_sizes tree.now.levels) granted.now) core.number level }
+{
+    let _height = tree.height();
+    let above = depth_at(tree, granted, tree.on_path(core, level + 1));
+    above <= depth_at(tree, granted, tree.on_path(core, level))
+}
+
+/// The depth of a domain among those of all.
+fn depth_at(tree: &Tree, depths: &[u64], node: Node) -> u64
+    requires count { length depths.now ≡ domain_count tree.now.levels }
+    requires domain { HasNodeIn tree.now.levels node }
+    ensures { result
+        ≡ depth_in (rows_of (level_sizes tree.now.levels) depths.now) node.level node.place }
+{
+    depths[tree.domains_below(node.level) + node.place as usize]
 }

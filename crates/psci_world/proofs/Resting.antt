@@ -3,8 +3,7 @@ use Rattle.std.proofs.Common.{◌≡◌, List, ◌++◌, Ok, Err, ◌∙◌}
 use Rattle.std.specs.Prelude.{IfOk, Result}
 use Rattle.psci_machine.specs.psci_board.Board.{BoardValue}
 use Rattle.psci_machine.specs.psci_board.declared.memory.Memory.{Memory}
-use Rattle.psci_headline.specs.Drained.{IsSettled}
-use Rattle.psci_headline.specs.Settling.{settled}
+use Rattle.psci_headline.specs.Settling.{IsSettled, settled}
 use Rattle.psci_world.specs.declared.settling.Settled.{Settled}
 use Rattle.psci_world.specs.declared.settling.Settled.TheVariants.{Quiet}
 use Rattle.psci_world.specs.Settles.{ComesToRest}

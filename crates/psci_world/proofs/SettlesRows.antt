@@ -1,19 +1,20 @@
 -- Worked examples: which messages are answered as the world settles, pasts that it does not settle
 -- by or come to rest by, and pasts that are on the way to others, or not.
 use Rattle.std.proofs.lemmas.List.Sums.{AllPass-from_list_all, list_all-from_AllPass}
-use Rattle.std.proofs.Common.{◌≡◌, ◌≤◌, ◌+◌, ◌++◌, ◌&&◌, ℕ, true, false, List, [], ◌∷◌, length}
-use Rattle.std.proofs.Common.{length-append, map, refl, arith, ap, ◌∙◌}
+use Rattle.std.proofs.Common.{◌&&◌, ◌++◌, ◌+◌, ◌∙◌, ◌∷◌, ◌≡◌, ◌≤◌, [], ap, arith, false, length}
+use Rattle.std.proofs.Common.{length-append, List, map, refl, true, ℕ}
 use Rattle.std.specs.List.{list_all}
 use Rattle.psci_machine.proofs.Tables.{◌⇒◌, Gives}
 use Rattle.psci_machine.specs.psci_world_spec.psci_messages.declared.kind.Kind.TheVariants as kinds
-use Rattle.psci_headline.specs.Drained.{is_settling}
-use Rattle.psci_world.specs.declared.outstanding.Which.TheVariants.{All, Starts}
+use Rattle.psci_headline.specs.Settling.{is_settling}
+use Rattle.psci_world.specs.declared.settling.Which.TheVariants.{All, Starts}
 use Rattle.psci_world.specs.declared.settling.Settled.{Settled}
 use Rattle.psci_world.specs.declared.settling.Settled.TheVariants.{Halting, Quiet}
 use Rattle.psci_world.specs.Settles.{ComesToRest, IsOnTheWay, SettlesBy, serves_kind}
 use Rattle.psci_machine.proofs.world_spec.Scripts.{board}
 use Rattle.psci_machine.specs.psci_world_spec.declared.event.Event.{Event}
-use Rattle.psci_machine.specs.psci_world_spec.declared.event.Event.TheVariants.{Enter, Take, Wake}
+use Rattle.psci_machine.specs.psci_world_spec.declared.event.Event.TheVariants.{Enter, Take}
+use Rattle.psci_machine.specs.psci_world_spec.declared.event.Event.TheVariants.{Wake}
 use Rattle.psci_machine.specs.psci_world_spec.declared.said.Record.{Record}
 use Rattle.psci_machine.specs.psci_world_spec.declared.said.Said.{Said}
 use Rattle.psci_machine.specs.psci_world_spec.Legal.{legal_record, run_from}

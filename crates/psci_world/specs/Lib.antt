@@ -1,4 +1,3 @@
-pub mod Seen
 pub mod Settles
 pub use Rattle.psci_machine.specs.Safe
 pub use Rattle.psci_machine.specs.psci_board

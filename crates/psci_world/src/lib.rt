@@ -8,8 +8,6 @@
 //!   why it ends, are `psci_headline`'s.
 #![tactic(auto)]
 
-mod outstanding;
-mod runs;
 mod settling;
 mod world;
 
@@ -18,6 +16,5 @@ pub use psci_machine::{
     Part, Parts, Place, Record, Regs, Said, Sent, Start, Status, Taken, law_histories,
     law_live_claims, law_runs, law_safe,
 };
-pub use runs::run;
-pub use settling::{Settled, settle};
+pub use settling::{Settled, run, settle};
 pub use world::World;

@@ -1,17 +1,22 @@
 //! The world settles: what waits is answered, until firmware and power controller agree.
 
-ghost use Rattle.std.specs.Prelude.{◌≡◌, ◌<◌, ◌+◌, true, false, IfOk, Ok, OnErr, OnOk};
+ghost use Rattle.std.specs.Prelude.{◌+◌, ◌<◌, ◌≡◌, [], false, IfOk, if◌then◌else◌, None, Ok, OnErr};
+ghost use Rattle.std.specs.Prelude.{OnOk, option_and_then, option_map, reverse, true};
+ghost use Rattle.psci_headline.specs.Settling.{all_cores, begun, each_core, entering, has_name};
+ghost use Rattle.psci_headline.specs.Settling.{index_of, is_halting, is_settling, is_waiting};
+ghost use Rattle.psci_headline.specs.Settling.{rounds, served, serving, settled, step};
+ghost use Rattle.psci_machine.specs.Safe.{AlwaysSafe};
 ghost use Rattle.psci_machine.specs.psci_board.Board.{cores, height};
-ghost use Rattle.psci_headline.specs.Drained.{is_settling};
-ghost use Rattle.psci_headline.specs.Settling.{all_cores, served, serving, begun, each_core};
-ghost use Rattle.psci_headline.specs.Settling.{entering, is_halting, rounds, settled, step};
+ghost use Rattle.psci_machine.specs.psci_world_spec.Legal.{firmware_values, IsLegalPast, run_from};
+ghost use Rattle.psci_machine.specs.psci_world_spec.Legal.{sent};
+ghost use Rattle.psci_machine.specs.psci_world_spec.psci_messages.Slots.{OfCore};
+ghost use Rattle.psci_world.specs.Settles.{ComesToRest, IsOnTheWay, serves_kind, SettlesBy};
 ghost use Rattle.psci_world.specs.declared.settling.Settled.TheVariants.{Halting, Quiet};
-ghost use Rattle.psci_world.specs.Settles.{ComesToRest, IsOnTheWay, SettlesBy, serves_kind};
 
-use crate::outstanding::{Which, is_waiting, number_outstanding};
 use crate::world::World;
 use psci_headline::law_settles;
-use psci_machine::{Core, Event, Memory, Place};
+use psci_machine::{Board, Core, Event, Kind, Memory, Message, Place, Record};
+use std::alloc::Global;
 
 /// What became of a world that was to settle.
 #[derive(Clone, Copy, Debug, PartialEq, Eq)]
@@ -191,4 +196,103 @@ fn happen(world: &mut World, event: Event) -> Result<(), Memory>
 {
     world.step(event)?;
     Ok(())
+}
+
+// What is outstanding, and the number under which it was sent.
+
+/// Which outstanding messages are answered.
+#[derive(Clone, Copy, Debug, PartialEq, Eq)]
+pub enum Which {
+    /// Each Start.
+    Starts,
+    /// Every message of a core.
+    All,
+}
+
+impl Which {
+    /// Whether messages of this kind are answered.
+    fn answers(self, kind: Kind) -> bool
+        ensures { result ≡ serves_kind self kind }
+    {
+        match self {
+            Which::Starts => kind == Kind::Start,
+            Which::All => true,
+        }
+    }
+}
+
+/// The outstanding message of a core.
+fn outstanding(world: &World, number: u16) -> Option<&Message>
+    requires { number < cores world.now.board }
+    ensures { option_map (λ message. message.now) result
+        ≡ (firmware_values world.now.board world.now.past).outstanding (OfCore number) }
+{
+    world.firmware().outstanding(number)
+}
+
+/// Whether a message of some core is outstanding.
+pub fn is_waiting(world: &World) -> bool
+    ensures { result ≡ is_waiting world.now.board world.now.past }
+{
+    for number in 0..world.board().cores() {
+        if outstanding(world, number).is_some() {
+            return true;
+        }
+    }
+    false
+}
+
+/// The number of the message that is outstanding for a core, if there is one to be answered.
+pub fn number_outstanding(world: &World, number: u16, which: Which) -> Option<u64>
+    requires { number < cores world.now.board }
+    ensures { result ≡ option_and_then
+        (λ m. if serves_kind which m.kind then index_of m (sent world.now.past) else None)
+        ((firmware_values world.now.board world.now.past).outstanding (OfCore number)) }
+{
+    let message = outstanding(world, number)?;
+    if !which.answers(message.kind) {
+        return None;
+    }
+    number_of(message, world.messages())
+}
+
+/// The number of the newest message with the name of this one.
+fn number_of(message: &Message, messages: &[Message]) -> Option<u64>
+    ensures { result ≡ index_of message.now (reverse messages.now) }
+{
+    for number in (0..messages.len()).rev() {
+        if has_name(message, &messages[number]) {
+            return Some(number as u64);
+        }
+    }
+    None
+}
+
+/// Whether both messages have one name: kind, core, life and number.
+fn has_name(one: &Message, other: &Message) -> bool
+    ensures { result ≡ has_name one.now other.now }
+{
+    one.kind == other.kind
+        && one.core == other.core
+        && one.life == other.life
+        && one.number == other.number
+}
+
+// Whole runs.
+
+/// The records of the run of these events on this board, the oldest first: the one legal run, safe
+/// at every moment.
+#[tactic(auto, unfolding(psci_world_spec::specs::Legal::run_from))]
+pub fn run(alloc: Global, board: &Board, events: &[Event]) -> Result<Vec<Record>, Memory>
+    ensures records { IfOk result (λ records. records.items
+        ≡ reverse (run_from board.now [] events.now)) }
+    ensures legal { IfOk result (λ records. IsLegalPast board.now (reverse records.items)) }
+    ensures safe { IfOk result (λ records. AlwaysSafe board.now (reverse records.items)) }
+{
+    let mut world = World::new(alloc, board)?;
+    for event in events {
+        let _record = world.step(*event)?;
+    }
+    world.law();
+    Ok(world.into_records())
 }

@@ -18,7 +18,7 @@ pub struct World {
 
 impl Model for World {
     ghost use Rattle.std.specs.Prelude.{reverse};
-    ghost use Rattle.psci_world.specs.Seen.{IsWorld, WorldValue};
+    ghost use Rattle.psci_world.specs.Settles.{IsWorld, WorldValue};
 
     ghost Value = { WorldValue };
 
@@ -34,12 +34,10 @@ ghost use Rattle.std.specs.Prelude.{◌≡◌, ◌<◌, [], ◌∷◌, IfOk, OnO
 ghost use Rattle.psci_machine.specs.psci_board.Board.{IsBoard, cores};
 ghost use Rattle.psci_machine.specs.Controller as controller;
 ghost use Rattle.psci_machine.specs.Firmware as firmware;
-ghost use Rattle.psci_machine.specs.psci_world_spec.Histories.{acks, controller_values};
-ghost use Rattle.psci_machine.specs.psci_world_spec.Histories.{firmware_values, sent};
+ghost use Rattle.psci_machine.specs.psci_world_spec.Legal.{acks, controller_values};
+ghost use Rattle.psci_machine.specs.psci_world_spec.Legal.{firmware_values, indexed, IsLegalPast};
+ghost use Rattle.psci_machine.specs.psci_world_spec.Legal.{legal_record, place, sent};
 ghost use Rattle.psci_machine.specs.Safe.{AlwaysSafe};
-ghost use Rattle.psci_machine.specs.psci_world_spec.Legal.{IsLegalPast, legal_record};
-ghost use Rattle.psci_machine.specs.psci_world_spec.Lists.{indexed};
-ghost use Rattle.psci_machine.specs.psci_world_spec.Places.{place};
 
 impl World {
     /// The world of this board, before any event: the power controller is in its first life, the

@@ -1,6 +1,6 @@
 -- In the histories of a legal past every reply is the one reply.
-use Rattle.std.proofs.Common.{◌++◌, ◌∷◌, ◌≡◌, [], ap, arith, length, List}
-use Rattle.std.proofs.Common.{Option, option_map, refl, Some, subst, sym, ℕ}
+use Rattle.std.proofs.Common.{◌++◌, ◌∷◌, ◌≡◌, [], ap, arith, length, List, Option, option_map}
+use Rattle.std.proofs.Common.{refl, Some, subst, sym, ℕ}
 use Rattle.psci_fw_spec.specs.psci_abi.declared.registers.Regs.{Regs}
 use Rattle.psci_fw_spec.specs.psci_board.Board.{BoardValue}
 use Rattle.psci_ctl_spec.specs.declared.call.CtlCall.{CtlCall}
@@ -18,12 +18,10 @@ use Rattle.psci_world_spec.specs.declared.event.Event.TheVariants.{Call, Deliver
 use Rattle.psci_world_spec.specs.declared.event.Event.TheVariants.{Take, Wake}
 use Rattle.psci_world_spec.specs.declared.said.Record.{Record}
 use Rattle.psci_world_spec.specs.declared.said.Said.{Said}
-use Rattle.psci_world_spec.specs.Histories.{acks, call, control, controller_history}
-use Rattle.psci_world_spec.specs.Histories.{controller_values, firmware_history}
-use Rattle.psci_world_spec.specs.Histories.{firmware_values, outcome_in, sent}
-use Rattle.psci_world_spec.specs.Legal.{IsLegalPast}
-use Rattle.psci_world_spec.specs.Legal.{IsReplied, legal, said_by, said_of, sent_as}
-use Rattle.psci_world_spec.specs.Lists.{indexed}
+use Rattle.psci_world_spec.specs.Legal.{acks, call, control, controller_history}
+use Rattle.psci_world_spec.specs.Legal.{controller_values, firmware_history, firmware_values}
+use Rattle.psci_world_spec.specs.Legal.{indexed, IsLegalPast, IsReplied, legal, outcome_in}
+use Rattle.psci_world_spec.specs.Legal.{said_by, said_of, sent, sent_as}
 use Rattle.psci_ctl_spec.specs.declared.call.CtlCall.TheVariants as asked
 use Rattle.psci_fw_spec.specs.declared.call.FwCall.TheVariants as calls
 

@@ -9,12 +9,11 @@ use Rattle.psci_world_spec.specs.declared.event.Event.TheVariants.{Deliver, Ente
 use Rattle.psci_world_spec.specs.declared.event.Event.TheVariants.{Wake}
 use Rattle.psci_world_spec.specs.declared.place.Place.{Place}
 use Rattle.psci_world_spec.specs.declared.place.Place.TheVariants.{Running, Started, Stopped}
-use Rattle.psci_world_spec.specs.Legal.{run_from}
-use Rattle.psci_world_spec.specs.Places.{place}
+use Rattle.psci_world_spec.specs.Legal.{controller_history, firmware_values, place, run_from}
+use Rattle.psci_world_spec.specs.Legal.{sent}
 use Rattle.psci_world_spec.proofs.Scripts.{board, call, computing, limited, off, on_3, part}
 use Rattle.psci_world_spec.proofs.Scripts.{retention, system_off, system_reset, tall}
 use Rattle.psci_fw_spec.specs.NodeHwState.{hw_code, node_hw}
-use Rattle.psci_world_spec.specs.Histories.{controller_history, firmware_values, sent}
 use Rattle.psci_ctl_spec.specs.declared.call.CtlCall.{CtlCall}
 use Rattle.psci_fw_spec.specs.psci_messages.declared.kind.Kind.TheVariants.{Down, Start}
 use Rattle.psci_ctl_spec.specs.declared.call.CtlCall.TheVariants as asked

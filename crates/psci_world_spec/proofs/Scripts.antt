@@ -1,39 +1,104 @@
 -- Worked examples are stated so: events in turn, and what is said of each.
-use Rattle.std.proofs.Common.{◌≡◌, ℕ, zero, suc, ℤ, pos, negsuc, Bool, List, [], ◌∷◌}
-use Rattle.std.proofs.Common.{map, reverse, Option, None, Some}
-use Rattle.psci_fw_spec.specs.psci_abi.declared.format.Format.TheVariants.{Original}
-use Rattle.psci_fw_spec.specs.psci_board.Board.{BoardValue, core_of, node_of, up}
-use Rattle.psci_fw_spec.specs.psci_messages.declared.part.Part.{Part}
-use Rattle.psci_fw_spec.specs.psci_messages.Claim.{claims_of}
-use Rattle.psci_fw_spec.specs.psci_messages.LastCore.{last_core_check, refusal, shallow, shallow_at}
-use Rattle.psci_fw_spec.specs.psci_messages.View.{generation, is_all_away, is_idle, least_ask}
-use Rattle.psci_fw_spec.specs.psci_messages.declared.start.Cause.{Cause}
-use Rattle.psci_ctl_spec.specs.Effects.{effect_of}
+use Rattle.std.proofs.Common.{◌++◌, ◌∙◌, ◌∷◌, ◌≡◌, [], ap, Bool, List, map, negsuc, None, Option}
+use Rattle.std.proofs.Common.{pos, refl, reverse, Some, suc, sym, zero, ℕ, ℤ}
+use Rattle.std.proofs.lemmas.List.{append-nil, append_assoc, reverse-append, reverse-reverse}
+use Rattle.psci_ctl_spec.specs.Replies.{delivery_of, effect_of, reply, reset_of, wake_of}
 use Rattle.psci_ctl_spec.specs.History as controls
-use Rattle.psci_ctl_spec.specs.Parts.{applied, is_stale}
-use Rattle.psci_ctl_spec.specs.Replies.{delivery_of, reply, reset_of, wake_of}
-use Rattle.psci_ctl_spec.specs.Values.{starts_below}
-use Rattle.psci_fw_spec.specs.declared.outcome.Act.TheVariants as acts
-use Rattle.psci_fw_spec.specs.AffinityInfo.{node_status}
-use Rattle.psci_fw_spec.specs.Answer.{answer}
-use Rattle.psci_fw_spec.specs.Calls.{outcome_of}
-use Rattle.psci_fw_spec.specs.Claims.{off_parts, suspend_parts}
-use Rattle.psci_fw_spec.specs.CpuOn.{target_of}
-use Rattle.psci_fw_spec.specs.Entering.{enter_outcome}
+use Rattle.psci_ctl_spec.specs.Values.{applied, is_stale, starts_below}
+use Rattle.psci_fw_spec.specs.PowerCalls.{node_status, off_parts, suspend_parts, target_of}
+use Rattle.psci_fw_spec.specs.Answer.{answer, enter_outcome, outcome_of}
 use Rattle.psci_fw_spec.specs.History as remembers
-use Rattle.psci_fw_spec.specs.Views.{view}
+use Rattle.psci_fw_spec.specs.Invariant.{view}
+use Rattle.psci_fw_spec.specs.declared.outcome.Act.TheVariants as acts
+use Rattle.psci_fw_spec.specs.psci_abi.declared.registers.Format.TheVariants.{Original}
+use Rattle.psci_fw_spec.specs.psci_board.Board.{BoardValue, core_of, node_of, up}
+use Rattle.psci_fw_spec.specs.psci_messages.Claim.{claims_of, last_core_check, refusal, shallow}
+use Rattle.psci_fw_spec.specs.psci_messages.Claim.{shallow_at}
+use Rattle.psci_fw_spec.specs.psci_messages.Outstanding.{changes_since, last_message}
+use Rattle.psci_fw_spec.specs.psci_messages.Outstanding.{outstanding}
+use Rattle.psci_fw_spec.specs.psci_messages.View.{generation, is_all_away, is_idle, least_ask}
 use Rattle.psci_fw_spec.specs.psci_messages.declared.kind.Kind.{Kind}
 use Rattle.psci_fw_spec.specs.psci_messages.declared.kind.Kind.TheVariants as kinds
+use Rattle.psci_fw_spec.specs.psci_messages.declared.part.Part.{Part}
+use Rattle.psci_fw_spec.specs.psci_messages.declared.start.Cause.{Cause}
 use Rattle.psci_fw_spec.specs.psci_messages.declared.taken.Taken.TheVariants as takens
-use Rattle.psci_fw_spec.specs.psci_messages.Outstanding.{changes_since, last_message, outstanding}
+use Rattle.psci_world_spec.specs.Legal.{acks, controller_history, firmware_history, IsLegalPast}
+use Rattle.psci_world_spec.specs.Legal.{legal, legal_record, place, run_from, sent}
 use Rattle.psci_world_spec.specs.declared.event.Event.{Event}
 use Rattle.psci_world_spec.specs.declared.event.Event.TheVariants.{Call}
+use Rattle.psci_world_spec.specs.declared.said.Record.{Record}
 use Rattle.psci_world_spec.specs.declared.said.Said.{Said}
-use Rattle.psci_world_spec.specs.declared.said.Said.TheVariants.{Fw, Kick, Acked, Taken}
+use Rattle.psci_world_spec.specs.declared.said.Said.TheVariants.{Acked, Fw, Kick, Taken}
 use Rattle.psci_world_spec.specs.declared.said.Sent.{Sent}
-use Rattle.psci_world_spec.specs.Histories.{acks, controller_history, firmware_history, sent}
-use Rattle.psci_world_spec.specs.Legal.{legal, run_from}
-use Rattle.psci_world_spec.specs.Places.{place}
+
+-- To each list of events there is one legal run ---------------------------------------------------
+
+-- the events of a past, newest first
+abbrev pub events_of : List Record → List Event
+events_of past = map (λ (r : Record). r.event) past
+
+-- Runs -----------------------------------------------------------------------------------------
+
+pub stays_legal : (b : BoardValue) (past : List Record) (events : List Event) → IsLegalPast b past
+    → IsLegalPast b (run_from b past events)
+unfolding run_from
+stays_legal b past [] is = is
+stays_legal b past (event ∷ events) is =
+    stays_legal b (legal_record b past event ∷ past) events (refl, is)
+
+pub goes_on : (b : BoardValue) (past : List Record) (events more : List Event)
+    → run_from b past (events ++ more) ≡ run_from b (run_from b past events) more
+unfolding run_from
+goes_on b past [] more = refl
+goes_on b past (event ∷ events) more = goes_on b (legal_record b past event ∷ past) events more
+
+-- the first event comes last
+last_event : (event : Event) (events : List Event) (before : List Event)
+    → reverse (event ∷ events) ++ before ≡ reverse events ++ (event ∷ before)
+last_event event events before =
+    ap (λ (l : List Event). l ++ before) (reverse-append (event ∷ []) events)
+    ∙ append_assoc (reverse events) (event ∷ []) before
+
+has_events : (b : BoardValue) (past : List Record) (events : List Event)
+    → events_of (run_from b past events) ≡ reverse events ++ events_of past
+unfolding run_from
+has_events b past [] = refl
+has_events b past (event ∷ events) =
+    has_events b (legal_record b past event ∷ past) events
+    ∙ sym (last_event event events (events_of past))
+
+pub run_events : (b : BoardValue) (events : List Event)
+    → events_of (run_from b [] events) ≡ reverse events
+run_events b events = has_events b [] events ∙ append-nil (reverse events)
+
+-- Only one -------------------------------------------------------------------------------------
+
+-- the legal past of these events, both with the newest first
+past_of : BoardValue → List Event → List Record
+past_of b [] = []
+past_of b (event ∷ events) = legal_record b (past_of b events) event ∷ past_of b events
+
+one_past : (b : BoardValue) (past : List Record) → IsLegalPast b past
+    → past ≡ past_of b (events_of past)
+unfolding past_of
+one_past b [] is = refl
+one_past b (r ∷ past) is =
+    ap (λ (s : Said). record { event = r.event; said = s } ∷ past) is.0
+    ∙ ap (λ (p : List Record). legal_record b p r.event ∷ p) (one_past b past is.1)
+
+pub only_one : (b : BoardValue) (one other : List Record) → IsLegalPast b one → IsLegalPast b other
+    → events_of one ≡ events_of other → one ≡ other
+only_one b one other is also same =
+    one_past b one is ∙ ap (past_of b) same ∙ sym (one_past b other also)
+
+pub is_run : (b : BoardValue) (past : List Record) → IsLegalPast b past
+    → past ≡ run_from b [] (reverse (events_of past))
+is_run b past is =
+    let events = reverse (events_of past) in
+    only_one b past (run_from b [] events) is (stays_legal b [] events tt)
+    (sym (run_events b events ∙ reverse-reverse (events_of past)))
+
+-- Scripts -----------------------------------------------------------------------------------------
 
 -- what an example unfolds to compute what is said of events that are written out
 unfoldable pub computing : Unit {0}

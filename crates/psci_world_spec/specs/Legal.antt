@@ -1,36 +1,190 @@
 -- What is said of an event, by the records before it; legal records and runs.
-use Rattle.std.specs.Prelude.{◌≡◌, ℕ, nat_lt, if◌then◌else◌, List, [], ◌∷◌, length}
-use Rattle.std.specs.Prelude.{Option, None, Some, option_map}
-use Rattle.psci_fw_spec.specs.psci_board.Board.{BoardValue, cores}
+use Rattle.std.specs.Prelude.{◌++◌, ◌==◌, ◌∷◌, ◌≡◌, [], if◌then◌else◌, length, List, nat_lt}
+use Rattle.std.specs.Prelude.{None, Option, option_map, reverse, slice_get, Some, unwrap_or, ℕ}
+use Rattle.psci_ctl_spec.specs.Replies.{Begins, Deepens, Effect, effect_of, Ends, last_start}
+use Rattle.psci_ctl_spec.specs.Replies.{Nothing, reply, Starts}
+use Rattle.psci_ctl_spec.specs.Values as controller
+use Rattle.psci_ctl_spec.specs.History as controls
 use Rattle.psci_ctl_spec.specs.declared.call.CtlCall.{CtlCall}
 use Rattle.psci_ctl_spec.specs.declared.call.CtlCall.TheVariants as asked
 use Rattle.psci_ctl_spec.specs.declared.delivery.Delivery.TheVariants as deliveries
 use Rattle.psci_ctl_spec.specs.declared.kick.Kick.TheVariants as kicks
 use Rattle.psci_ctl_spec.specs.declared.reply.CtlReply.{CtlReply}
 use Rattle.psci_ctl_spec.specs.declared.reply.CtlReply.TheVariants as replied
-use Rattle.psci_fw_spec.specs.psci_messages.declared.start.Start.{Start}
-use Rattle.psci_ctl_spec.specs.Exchange as controller
-use Rattle.psci_ctl_spec.specs.History as controls
-use Rattle.psci_ctl_spec.specs.Replies.{last_start, reply}
+use Rattle.psci_fw_spec.specs.Answer.{answer}
+use Rattle.psci_fw_spec.specs.Effects as firmware
+use Rattle.psci_fw_spec.specs.History as remembers
+use Rattle.psci_fw_spec.specs.Effects.{listed}
+use Rattle.psci_fw_spec.specs.Values as kept
 use Rattle.psci_fw_spec.specs.declared.call.FwCall.{FwCall}
 use Rattle.psci_fw_spec.specs.declared.call.FwCall.TheVariants as calls
+use Rattle.psci_fw_spec.specs.declared.outcome.Act.{Act}
+use Rattle.psci_fw_spec.specs.declared.outcome.Act.TheVariants as acts
+use Rattle.psci_fw_spec.specs.declared.outcome.Outcome.{Outcome}
 use Rattle.psci_fw_spec.specs.declared.reply.FwReply.{FwReply}
 use Rattle.psci_fw_spec.specs.declared.reply.FwReply.TheVariants as replies
-use Rattle.psci_fw_spec.specs.Answer.{answer}
+use Rattle.psci_fw_spec.specs.psci_board.Board.{BoardValue, cores}
 use Rattle.psci_fw_spec.specs.psci_messages.Message.{AckValue, MessageValue}
+use Rattle.psci_fw_spec.specs.psci_messages.declared.start.Start.{Start}
+use Rattle.psci_fw_spec.specs.psci_messages.declared.taken.Taken.{Taken}
 use Rattle.psci_world_spec.specs.declared.event.Event.{Event}
-use Rattle.psci_world_spec.specs.declared.event.Event.TheVariants.{Call, Enter, Wake, Reset}
-use Rattle.psci_world_spec.specs.declared.event.Event.TheVariants.{Deliver, Take}
+use Rattle.psci_world_spec.specs.declared.event.Event.TheVariants.{Call, Deliver, Enter, Reset}
+use Rattle.psci_world_spec.specs.declared.event.Event.TheVariants.{Take, Wake}
 use Rattle.psci_world_spec.specs.declared.place.Place.{Place}
-use Rattle.psci_world_spec.specs.declared.place.Place.TheVariants.{Started, Running, Stopped}
+use Rattle.psci_world_spec.specs.declared.place.Place.TheVariants.{Running, Started, Stopped}
 use Rattle.psci_world_spec.specs.declared.said.Record.{Record}
 use Rattle.psci_world_spec.specs.declared.said.Said.{Said}
-use Rattle.psci_world_spec.specs.declared.said.Said.TheVariants.{Fw, Kick, Acked, Ignored, Absent}
-use Rattle.psci_world_spec.specs.declared.said.Said.TheVariants.{Taken as Took}
+use Rattle.psci_world_spec.specs.declared.said.Said.TheVariants.{Absent, Acked, Fw, Ignored}
+use Rattle.psci_world_spec.specs.declared.said.Said.TheVariants.{Kick, Taken as Took}
 use Rattle.psci_world_spec.specs.declared.said.Sent.{Sent}
-use Rattle.psci_world_spec.specs.Histories.{acks, controller_values, firmware_values, sent}
-use Rattle.psci_world_spec.specs.Lists.{indexed}
-use Rattle.psci_world_spec.specs.Places.{place}
+
+-- Lists -------------------------------------------------------------------------------------------
+-- Lists that have their newest item first, and whose items are numbered from the oldest one.
+
+-- the item of this number, counted from 0 as they came, where there is one
+abbrev pub indexed : {A : Type 0} → List A → ℕ → Option A
+indexed items k = slice_get (reverse items) k
+
+-- Histories ---------------------------------------------------------------------------------------
+-- The two histories of the records: what the firmware was asked and replied, and what the power
+-- controller was. A past has its newest record first; every definition looks backwards along it.
+
+-- Messages and acknowledgements ----------------------------------------------------------------
+
+-- the message that was sent
+abbrev pub sent_in : Said → Option MessageValue
+sent_in (Fw act sent) = option_map (λ s. s.message) sent
+sent_in said = None
+
+-- all messages sent, over all lives
+unfoldable pub sent : List Record → List MessageValue
+sent [] = []
+sent (r ∷ past) = listed (sent_in r.said) ++ sent past
+
+-- the acknowledgement that was made
+abbrev pub ack_in : Said → Option AckValue
+ack_in (Acked index ack) = Some ack
+ack_in said = None
+
+-- all acknowledgements made
+unfoldable pub acks : List Record → List AckValue
+acks [] = []
+acks (r ∷ past) = listed (ack_in r.said) ++ acks past
+
+-- The controller's history ---------------------------------------------------------------------
+
+-- a message of some number was delivered and acknowledged
+abbrev pub delivered : Option MessageValue → AckValue → List controller.CtlExchange
+delivered None ack = []
+delivered (Some m) ack = record {
+  call = asked.Deliver m;
+  reply = replied.Delivery (deliveries.Applied ack);
+} ∷ []
+
+-- a core was started
+abbrev pub kicked : CtlCall → Start → List controller.CtlExchange
+kicked call start =
+    record { call = call; reply = replied.Kick (kicks.Started start) } ∷ []
+
+-- what a record adds, after the values so far: a wake-up names the start in which the core stopped
+abbrev pub control : controller.Values → List MessageValue → Event → Said
+    → List controller.CtlExchange
+control v messages (Deliver k) (Acked index ack) = delivered (indexed messages k) ack
+control v messages (Wake c) (Kick start) =
+    kicked (asked.Wake (record { number = c }) (v.starts c)) start
+control v messages (Reset c) (Kick start) = kicked (asked.Reset (record { number = c })) start
+control v messages event said = []
+
+-- what the power controller was asked and replied, but for what it ignored
+unfoldable pub controller_history : BoardValue → List Record → List controller.CtlExchange
+controller_history b [] = []
+controller_history b (r ∷ past) =
+    control (controls.values_of b (controller_history b past)) (sent past) r.event r.said
+    ++ controller_history b past
+
+-- the values of the power controller after these records
+abbrev pub controller_values : BoardValue → List Record → controller.Values
+controller_values b past = controls.values_of b (controller_history b past)
+
+-- The firmware's history -----------------------------------------------------------------------
+
+-- the outcome that is said
+abbrev pub outcome_in : Act → Option Sent → Outcome
+outcome_in act sent = record { act = act; message = option_map (λ s. s.message) sent }
+
+-- a core entered by its last start
+abbrev pub entered : ℕ → Option Start → Outcome → List firmware.FwExchange
+entered c None outcome = []
+entered c (Some start) outcome =
+    record { core = c; call = calls.Enter start; reply = replies.Out outcome } ∷ []
+
+-- an acknowledgement of some number was taken
+abbrev pub took : Option AckValue → Taken → List firmware.FwExchange
+took None taken = []
+took (Some ack) taken =
+    record { core = 0; call = calls.Take ack; reply = replies.Taken taken } ∷ []
+
+-- what a record adds, after the controller's values and the acknowledgements so far
+abbrev pub call : controller.Values → List AckValue → Event → Said → List firmware.FwExchange
+call v made (Call c regs) (Fw act sent) =
+    record { core = c; call = calls.Smc regs; reply = replies.Out (outcome_in act sent) } ∷ []
+call v made (Enter c) (Fw act sent) = entered c (last_start v c) (outcome_in act sent)
+call v made (Take k) (Took taken) = took (indexed made k) taken
+call v made event said = []
+
+-- what the firmware was asked and replied
+unfoldable pub firmware_history : BoardValue → List Record → List firmware.FwExchange
+firmware_history b [] = []
+firmware_history b (r ∷ past) =
+    call (controller_values b past) (acks past) r.event r.said ++ firmware_history b past
+
+-- the values of the firmware after these records
+abbrev pub firmware_values : BoardValue → List Record → kept.Values
+firmware_values b past = remembers.values_of b (firmware_history b past)
+
+-- Where each core is ------------------------------------------------------------------------------
+
+-- the boot core is started as a life begins
+abbrev pub first_place : ℕ → Place
+first_place c = if c == 0 then Started else Stopped
+
+-- a core that stops executes nothing more; any other outcome leaves it running
+abbrev pub place_after : Act → Place
+place_after (acts.Return code) = Running
+place_after acts.Stop = Stopped
+place_after (acts.Enter address context) = Running
+place_after acts.Resume = Running
+
+-- an outcome says where its core is
+abbrev pub place_said : ℕ → Event → Said → Option Place
+place_said c (Call d regs) (Fw act sent) = if c == d then Some (place_after act) else None
+place_said c (Enter d) (Fw act sent) = if c == d then Some (place_after act) else None
+place_said c event said = None
+
+-- what the power controller did says where a core is: one that it started, each core as a life
+-- begins, and each core as the last life ends
+abbrev pub place_of_effect : ℕ → Effect → Option Place
+place_of_effect c Nothing = None
+place_of_effect c (Starts d cause) = if c == d then Some Started else None
+place_of_effect c (Deepens d ps) = None
+place_of_effect c Ends = Some Stopped
+place_of_effect c Begins = Some (first_place c)
+
+-- the same of the exchange that a record adds to the controller's history, if it adds one
+abbrev pub place_controlled : BoardValue → ℕ → List controller.CtlExchange → Option Place
+place_controlled b c [] = None
+place_controlled b c (e ∷ h) = place_of_effect c (effect_of b e.call e.reply)
+
+-- where a core is, by the last record that says it
+unfoldable pub place : BoardValue → List Record → ℕ → Place
+place b [] c = first_place c
+place b (r ∷ past) c =
+    unwrap_or (place_said c r.event r.said)
+    (unwrap_or (place_controlled b c
+    (control (controller_values b past) (sent past) r.event r.said))
+    (place b past c))
+
+-- Legal -------------------------------------------------------------------------------------------
 
 -- What is answered -----------------------------------------------------------------------------
 

@@ -1,7 +1,4 @@
-pub mod Histories
 pub mod Legal
-pub mod Lists
-pub mod Places
 pub use Rattle.psci_fw_spec.specs.psci_abi
 pub use Rattle.psci_fw_spec.specs.psci_board
 pub use Rattle.psci_fw_spec.specs.psci_messages

@@ -5,8 +5,8 @@ ghost use Rattle.psci_fw_spec.specs.psci_board.Board.{BoardValue};
 ghost use Rattle.psci_fw_spec.specs.Legal as answers;
 ghost use Rattle.psci_world_spec.specs.declared.event.Event.{Event};
 ghost use Rattle.psci_world_spec.specs.declared.said.Record.{Record};
-ghost use Rattle.psci_world_spec.specs.Histories.{controller_history, firmware_history};
-ghost use Rattle.psci_world_spec.specs.Legal.{IsReplied, IsLegalPast, run_from};
+ghost use Rattle.psci_world_spec.specs.Legal.{controller_history, firmware_history, IsLegalPast};
+ghost use Rattle.psci_world_spec.specs.Legal.{IsReplied, run_from};
 
 /// To each list of events there is exactly one legal run: what `run_from` gives is legal and has
 /// these events, newest first, and of the same events no other past is legal.

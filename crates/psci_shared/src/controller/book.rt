@@ -9,7 +9,7 @@ use std::alloc::Global;
 pub type CtlBook<N> = BookOf<N, Controller>;
 
 impl Answers for Controller {
-    ghost use Rattle.psci_shared.specs.CtlBooks.{Has, IsTold};
+    ghost use Rattle.psci_shared.specs.Places.{Has, IsTold};
 
     type Core = ();
 
@@ -21,7 +21,7 @@ impl Answers for Controller {
 
     ghost IsTold = { λ b entries. IsTold b entries };
 
-    #[tactic(auto, using(crate::proofs::Histories::controls_none))]
+    #[tactic(auto, using(crate::proofs::Crossing::controls_none))]
     fn open(alloc: Global, board: &Board) -> Result<Controller, Memory> {
         law_values();
         Controller::new(alloc, board)
@@ -37,18 +37,13 @@ impl Answers for Controller {
 ghost use Rattle.std.specs.Prelude.{◌≡◌, ◌<◌, length, IfOk, OnOk, OnErr};
 ghost use Rattle.psci_board.specs.Board.{cores};
 ghost use Rattle.psci_ctl.specs.Seen.{seen};
-ghost use Rattle.psci_ctl.specs.psci_ctl_spec.Changes.{after};
-ghost use Rattle.psci_ctl.specs.psci_ctl_spec.History.{values_of};
-ghost use Rattle.psci_ctl.specs.psci_ctl_spec.Legal.{IsCall, IsLegal};
-ghost use Rattle.psci_ctl.specs.psci_ctl_spec.Replies.{last_start, reply};
-ghost use Rattle.psci_shared.specs.Views.{entered};
-ghost use Rattle.psci_shared.specs.CtlBooks.{entry, history_of};
-ghost use Rattle.psci_shared.specs.CtlLocked.{IsReply};
-ghost use Rattle.psci_shared.specs.CtlPasses.{Fits};
+ghost use Rattle.psci_ctl.specs.psci_ctl_spec.Replies.{after, last_start, reply};
+ghost use Rattle.psci_ctl.specs.psci_ctl_spec.History.{IsCall, IsLegal, values_of};
+ghost use Rattle.psci_shared.specs.Places.{entered, entry, Fits, history_of, IsReply};
 
 impl<N: Named> CtlBook<N> {
     /// Carries out a call of this board and enters it, unless the book is full.
-    #[tactic(auto, using(crate::proofs::Histories::controls_more))]
+    #[tactic(auto, using(crate::proofs::Crossing::controls_more))]
     pub fn step(&mut self, ticket: u64, call: CtlCall) -> Result<CtlReply, BookFull>
         requires { IsCall N.board call }
         ensures reply { IfOk result (λ reply. IsReply N.board self.old.entries call reply) }

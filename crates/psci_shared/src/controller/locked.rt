@@ -1,9 +1,8 @@
 //! What the lock guards.
 
 ghost use Rattle.std.specs.Prelude.{◌≡◌, [], length, IfOk, OnErr};
-ghost use Rattle.psci_ctl.specs.psci_ctl_spec.Legal.{IsCall};
-ghost use Rattle.psci_shared.specs.CtlLocked.{IsEntered, IsReply, IsTurnedAway};
-ghost use Rattle.psci_shared.specs.Told.{IsTotal};
+ghost use Rattle.psci_ctl.specs.psci_ctl_spec.History.{IsCall};
+ghost use Rattle.psci_shared.specs.Places.{IsEntered, IsReply, IsTotal, IsTurnedAway};
 
 use crate::controller::book::CtlBook;
 use crate::controller::entry::{CtlItem, CtlPass};

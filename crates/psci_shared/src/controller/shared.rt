@@ -1,22 +1,16 @@
 //! The power controller that threads share.
 
-ghost use Rattle.std.specs.Prelude.{◌≡◌, ◌≤◌, ◌+◌, ◌<◌, length, IfOk, IfErr, OnOk, OnErr};
-ghost use Rattle.std.specs.Prelude.{List, MatchResult};
+ghost use Rattle.std.specs.Prelude.{◌+◌, ◌<◌, ◌≡◌, ◌≤◌, IfErr, IfOk, length, List, MatchResult};
+ghost use Rattle.std.specs.Prelude.{OnErr, OnOk};
 ghost use Rattle.psci_board.specs.Board.{cores};
 ghost use Rattle.psci_ctl.specs.psci_ctl_spec.declared.call.CtlCall.TheVariants as calls;
 ghost use Rattle.psci_ctl.specs.psci_ctl_spec.declared.reply.CtlReply.TheVariants as replies;
-ghost use Rattle.psci_ctl.specs.psci_ctl_spec.History.{values_of};
-ghost use Rattle.psci_ctl.specs.psci_ctl_spec.Legal.{IsCall, IsLegal, IsSendable};
+ghost use Rattle.psci_ctl.specs.psci_ctl_spec.History.{IsCall, IsLegal, IsSendable, values_of};
 ghost use Rattle.psci_ctl.specs.psci_ctl_spec.Replies.{last_start};
-ghost use Rattle.psci_shared.specs.CtlEntries.{CtlEntry};
-ghost use Rattle.psci_shared.specs.Agree.{Agree};
-ghost use Rattle.psci_shared.specs.Gathers.{IsCause, items_of};
-ghost use Rattle.psci_shared.specs.Places.{AllPlaced};
-ghost use Rattle.psci_shared.specs.Told.{FullIfTold};
-ghost use Rattle.psci_shared.specs.Views.{first, told};
-ghost use Rattle.psci_shared.specs.CtlAnswered.{IsAnswered, IsFull};
-ghost use Rattle.psci_shared.specs.CtlBooks.{history_of};
-ghost use Rattle.psci_shared.specs.CtlPasses.{Fits, IsCalled, IsNoPass};
+ghost use Rattle.psci_shared.specs.Places.{Agree, AllPlaced, CtlEntry, first, Fits, FullIfTold};
+ghost use Rattle.psci_shared.specs.Places.{history_of, IsAnswered, IsCalled, IsFull, IsNoPass};
+ghost use Rattle.psci_shared.specs.Places.{told};
+ghost use Rattle.psci_shared.specs.Passes.{IsCause, items_of};
 
 use crate::controller::book::CtlBook;
 use crate::controller::entry::CtlPass;

@@ -1,6 +1,5 @@
 -- Legal lists are the lists of legal runs.
-use Rattle.psci_audit.proofs.MayFollow.{legal_run}
-use Rattle.psci_audit.proofs.Only.{legal_list}
+use Rattle.psci_audit.proofs.MayFollow.{legal_list, legal_run}
 use Rattle.psci_audit.proofs.laws.law_told.Goals as goal
 
 pub returns : goal.returns

@@ -1,8 +1,8 @@
 -- Entry by entry.
 use Rattle.std.proofs.Common.{refl, ap, sym, ◌∙◌, arith}
 use Rattle.psci_audit.specs.Merged.{merged}
-use Rattle.psci_audit.proofs.Apart.{parts}
-use Rattle.psci_audit.proofs.SoFar.{after, asked_next, begin, controlled_next, ended, stopped, told}
+use Rattle.psci_audit.proofs.SoFar.{after, asked_next, begin, controlled_next, ended, parts}
+use Rattle.psci_audit.proofs.SoFar.{stopped, told}
 use Rattle.psci_audit.proofs.merging.follow_all.Goals as goal
 
 pub loop-place-init : goal.loop-place-init

@@ -1,8 +1,8 @@
 -- The lower of two tickets that rise is left behind.
 use Rattle.std.proofs.Common.{refl, arith}
 use Rattle.psci_audit.specs.Merged.{tickets_of}
-use Rattle.psci_audit.proofs.Apart.{both, next_ones, next_others, none_here, none_there, parts}
-use Rattle.psci_audit.proofs.Apart.{same_ones}
+use Rattle.psci_audit.proofs.SoFar.{both, next_ones, next_others, none_here, none_there, parts}
+use Rattle.psci_audit.proofs.SoFar.{same_ones}
 use Rattle.psci_audit.proofs.tickets.are_apart.Goals as goal
 
 pub returns-in_default-others : goal.returns-in_default-others

@@ -1,5 +1,5 @@
 -- The board, the status words, the rooms and the ledgers that the cores run on.
-use Rattle.psci_shared.specs.Names.{no_table}
+use Rattle.psci_shared.specs.Locked.{no_table}
 use Rattle.psci_status.specs.Seats.{table}
 use Rattle.psci_bench.proofs.cores.run_cores.Given as goal
 

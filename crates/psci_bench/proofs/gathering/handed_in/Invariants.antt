@@ -1,5 +1,5 @@
 -- what was seen so far
-use Rattle.psci_bench.specs.Seen.{AreSeen}
+use Rattle.psci_bench.specs.Watches.{AreSeen}
 use Rattle.psci_bench.proofs.gathering.handed_in.Given as goal
 
 abbrev pub invariant-loop-thread : goal.invariant-loop-thread

@@ -1,6 +1,6 @@
 -- Each child of the node that the loop is at has this node for its parent.
 use Rattle.psci_board.proofs.Terms.{arith, length_push, nat_tests, sum_by_more, take_all}
-use Rattle.psci_board.proofs.Groups.{one_more_child}
+use Rattle.psci_board.proofs.More.{one_more_child}
 use Rattle.psci_board.proofs.level.parents_of.Goals as goal
 
 pub loop-child-preserved : goal.loop-child-preserved

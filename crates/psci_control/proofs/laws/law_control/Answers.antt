@@ -1,12 +1,11 @@
 -- A step of this side is a step of the port that keeps its rules, by the side alone.
-use Rattle.psci_ctl_spec.specs.Effects.{effect_of}
-use Rattle.psci_ctl_spec.specs.Replies.{reply}
+use Rattle.psci_ctl_spec.specs.Replies.{effect_of, reply}
 use Rattle.psci_port.specs.Port.{state}
 use Rattle.psci_port.proofs.Running.{run_kept}
 use Rattle.psci_control.proofs.Apart.{apart_side}
-use Rattle.psci_control.proofs.Commanded.{delivers_side, resets_side, rises_side, wakes_side}
-use Rattle.psci_control.proofs.Powering.{orders_power}
-use Rattle.psci_control.proofs.Sides.{first_side, hears_side, opens_side, writes_side}
+use Rattle.psci_control.proofs.Commanded.{delivers_side, first_side, hears_side, opens_side}
+use Rattle.psci_control.proofs.Commanded.{resets_side, rises_side, wakes_side, writes_side}
+use Rattle.psci_control.proofs.Asked.{orders_power}
 use Rattle.psci_control.proofs.laws.law_control.Goals as goal
 
 pub returns : goal.returns

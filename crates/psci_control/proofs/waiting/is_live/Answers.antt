@@ -5,9 +5,10 @@ use Rattle.std.specs.Option.{option_copied}
 use Rattle.psci_messages.specs.declared.part.Part.{Part}
 use Rattle.psci_messages.specs.Message.{ArePartsOf, MessageValue}
 use Rattle.psci_board.specs.Board.{IsBoard}
-use Rattle.psci_ctl_spec.specs.Parts.{begins_stale}
+use Rattle.psci_ctl_spec.specs.Values.{begins_stale}
 use Rattle.psci_ctl.specs.Seen.{seen}
-use Rattle.psci_control.proofs.Present.{present_message}
+use Rattle.psci_control.proofs.Asked.{present_message}
+use Rattle.psci_ctl_spec.proofs.Sums.{sum_laws}
 use Rattle.psci_control.proofs.waiting.is_live.Goals as goal
 
 pub returns-in-Some : goal.returns-in-Some
@@ -23,7 +24,7 @@ returns-in-Some c =
     ∙ sym c.starts-starts.ensures)
     (present_message b (seen ctl) c.args.message.now c.in-Some.part.now
     (c.law_paths.ensures b (subst IsBoard c.board.ensures c.cores-cores.ensures.board))
-    (c.law_sums.ensures b) c.law_parts.ensures.parts c.requires.board.core c.requires.kind
+    (sum_laws b) c.law_parts.ensures.parts c.requires.board.core c.requires.kind
     (subst (λ (m : MessageValue). ArePartsOf m.kind m.parts) c.message.view_is
     c.message.invariant.parts)
     (subst (λ (m : MessageValue). slice_get m.parts 0 ≡ Some c.in-Some.part.now)

@@ -5,8 +5,8 @@ use Rattle.psci_tree.specs.Recount.{TreeValue}
 use Rattle.psci_tree.specs.Standing.{on_path}
 use Rattle.psci_coord.specs.Wish.{wanted}
 use Rattle.psci_messages.specs.Looked.{view_of}
-use Rattle.psci_coord.proofs.Climbing.{climbed-none, climbed-more, climbed-ends}
-use Rattle.psci_coord.proofs.TreeView.{wanted-is, known-is, node-is}
+use Rattle.psci_coord.proofs.Climbing.{climbed-ends, climbed-more, climbed-none, known-is}
+use Rattle.psci_coord.proofs.Climbing.{node-is, wanted-is}
 use Rattle.psci_coord.proofs.claim.climb.Goals as goal
 
 pub loop-level-init : goal.loop-level-init

@@ -1,15 +1,14 @@
 -- A domain is covered where the rows of its children are deep.
-use Rattle.std.proofs.Common.{◌≡◌, ℕ, ◌+◌, List, Bool, length, take, drop, get_or, [], ap, sym}
-use Rattle.std.proofs.Common.{Some, ◌∙◌, arith}
+use Rattle.std.proofs.Common.{◌+◌, ◌∙◌, ◌≡◌, [], ap, arith, Bool, drop, get_or, length, List}
+use Rattle.std.proofs.Common.{Some, sym, take, ℕ}
 use Rattle.std.specs.Prelude.{nat_le}
 use Rattle.std.specs.List.{list_all, range_with_len}
 use Rattle.std.proofs.lemmas.List.{get_or_read_under}
-use Rattle.psci_board.specs.declared.node.Node.{Node}
-use Rattle.psci_board.specs.Board.{BoardValue, HasNode, child, children, height}
-use Rattle.psci_board.specs.Laws.{ChildLaws}
+use Rattle.psci_board.specs.declared.draft.Node.{Node}
+use Rattle.psci_board.specs.Board.{BoardValue, child, ChildLaws, children, HasNode, height}
 use Rattle.psci_ctl.specs.declared.level.DomainRow.{DomainRow}
 use Rattle.psci_ctl.specs.Rows.{HasRows, off_domain}
-use Rattle.psci_ctl.proofs.Children.{all_rows, first_is, rows_fit}
+use Rattle.psci_ctl.proofs.Loaded.{all_rows, first_is, rows_fit}
 use Rattle.psci_ctl.proofs.covering.is_covered.Goals as goal
 
 -- the level of a child, as it was read

@@ -1,12 +1,12 @@
 -- One level more of the core's path is fully on.
-use Rattle.std.proofs.Common.{◌≡◌, ℕ, ◌+◌, ◌≤◌, ◌<◌, [], length, get_or, ap, sym, ◌∙◌, arith, subst}
+use Rattle.std.proofs.Common.{◌+◌, ◌<◌, ◌∙◌, ◌≡◌, ◌≤◌, [], ap, arith, get_or, length, subst, sym}
+use Rattle.std.proofs.Common.{ℕ}
 use Rattle.std.proofs.lemmas.Option.{get_or_from_slice_get}
-use Rattle.psci_board.specs.declared.node.Node.{Node}
-use Rattle.psci_board.specs.Board.{height, path, up}
-use Rattle.psci_board.specs.Laws.{PathLaws}
+use Rattle.psci_board.specs.declared.draft.Node.{Node}
+use Rattle.psci_board.specs.Board.{height, path, PathLaws, up}
 use Rattle.psci_ctl.specs.declared.level.DomainRow.{DomainRow}
 use Rattle.psci_ctl.specs.Rows.{HasRows, domain_at, path_on_once}
-use Rattle.psci_ctl.proofs.Looked.{domain_set, run_more, set_row, shape_set}
+use Rattle.psci_ctl.proofs.Kept.{domain_set, run_more, set_row, shape_set}
 use Rattle.psci_ctl.proofs.domains.run_path.Goals as goal
 
 pub loop-level-preserved : goal.loop-level-preserved

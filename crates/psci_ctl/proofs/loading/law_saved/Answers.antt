@@ -1,6 +1,5 @@
 -- What is saved says what is seen, and has no fault.
-use Rattle.psci_ctl.proofs.SavedFaults.{no_fault, same_seen}
-use Rattle.psci_ctl.proofs.Sums.{one_word}
+use Rattle.psci_ctl.proofs.SavedFaults.{no_fault, one_word, same_seen}
 use Rattle.psci_ctl.proofs.loading.law_saved.Goals as goal
 
 pub returns-clause-same : goal.returns-clause-same

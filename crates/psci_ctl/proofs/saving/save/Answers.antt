@@ -2,7 +2,7 @@
 use Rattle.std.proofs.Common.{arith, length, map, flat_map}
 use Rattle.std.proofs.lemmas.List.{length-append, length-map}
 use Rattle.psci_ctl.specs.Saved.{core_word, depths}
-use Rattle.psci_ctl.proofs.Written.{written}
+use Rattle.psci_ctl.proofs.SavedFaults.{written}
 use Rattle.psci_ctl.proofs.saving.save.Goals as goal
 
 pub returns : goal.returns

@@ -1,10 +1,11 @@
 -- Where every domain is off, the start of the boot core begins a life.
 use Rattle.std.proofs.Common.{List, length, ap, sym, ◌∙◌, subst, arith}
 use Rattle.psci_messages.specs.declared.start.Cause.TheVariants as causes
-use Rattle.psci_ctl_spec.specs.Changes.{with_start}
+use Rattle.psci_ctl_spec.specs.Replies.{with_start}
 use Rattle.psci_ctl.specs.declared.row.CoreRow.{CoreRow}
 use Rattle.psci_ctl.specs.Rows.{HasSums, values_in}
-use Rattle.psci_ctl.proofs.Started.{begun_values, off_sums}
+use Rattle.psci_ctl.proofs.Kept.{begun_values, off_sums}
+use Rattle.psci_ctl_spec.proofs.Sums.{sum_laws}
 use Rattle.psci_ctl.proofs.starting.begin_life.Goals as goal
 
 pub start_core-requires-clause-rows : goal.start_core-requires-clause-rows
@@ -15,7 +16,7 @@ start_core-requires-clause-rows c =
       shape = c.turn_off.ensures.shape;
       sums = subst (λ (rows : List CoreRow). HasSums b rows c.turn_off.new.levels)
           (sym c.forget_starts.ensures)
-          (off_sums b (length c.args.rows.now) c.turn_off.new.levels (c.law_sums.ensures b)
+          (off_sums b (length c.args.rows.now) c.turn_off.new.levels (sum_laws b)
           c.turn_off.ensures.rows);
     }
 

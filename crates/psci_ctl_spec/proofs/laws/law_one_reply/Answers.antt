@@ -1,5 +1,5 @@
 -- To each list of calls there is one history.
-use Rattle.psci_ctl_spec.proofs.OneMore.{one_history, some_history}
+use Rattle.psci_ctl_spec.proofs.Steps.{one_history, some_history}
 use Rattle.psci_ctl_spec.proofs.laws.law_one_reply.Goals as goal
 
 pub returns : goal.returns

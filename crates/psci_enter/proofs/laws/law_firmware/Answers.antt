@@ -1,18 +1,18 @@
 -- What a core asks of the firmware keeps the rules of the port, and is true.
-use Rattle.psci_headline.specs.Refusals.{NoneRefused}
+use Rattle.psci_headline.specs.Laws.{NoneRefused}
 use Rattle.psci_port.specs.Port.{Finishes, state}
 use Rattle.psci_port.proofs.Mirrors.{IsMirror}
 use Rattle.psci_port.proofs.Running.{run_kept}
 use Rattle.psci_port.proofs.Truth.{run_world}
 use Rattle.psci_enter.specs.SideOf.{core_of}
-use Rattle.psci_enter.proofs.Asking.{call_passes, calls_so, enters_so, entry_passes, lost_ack}
-use Rattle.psci_enter.proofs.Asking.{takes_so}
-use Rattle.psci_enter.proofs.Ending.{called_done, entered_done, taken_done}
-use Rattle.psci_enter.proofs.Sending.{sends_again}
+use Rattle.psci_enter.proofs.Ending.{call_passes, called_done, calls_so, entered_done, enters_so}
+use Rattle.psci_enter.proofs.Ending.{entry_passes, lost_ack, taken_done, takes_so}
+use Rattle.psci_enter.proofs.Others.{sends_again}
 use Rattle.psci_world_spec.proofs.Answered.{firmware_legal}
-use Rattle.psci_world_spec.specs.Histories.{firmware_history}
-use Rattle.psci_fw_spec.specs.Sent.{sent_messages}
-use Rattle.psci_enter.proofs.Steps.{firmware_after, rightly}
+use Rattle.psci_world_spec.specs.Legal.{firmware_history}
+use Rattle.psci_fw_spec.specs.Effects.{sent_messages}
+use Rattle.psci_enter.proofs.Standing.{firmware_after, rightly}
+use Rattle.psci_fw_laws.proofs.Histories.{legal_holds}
 use Rattle.psci_enter.proofs.laws.law_firmware.Goals as goal
 
 pub returns-clause-calls : goal.returns-clause-calls
@@ -93,8 +93,8 @@ returns-clause-again c = λ b acts f number m board run so of out.
     sends_again b (state b acts) f number m of
     (sent_messages b (firmware_history b (state b acts).past))
     (c.law_sent.ensures b (state b acts).past mirror.legal.0)
-    (c.law_outstanding.ensures b (firmware_history b (state b acts).past) board
-    (firmware_legal b (state b acts).past mirror.legal.0)) out
+    (legal_holds b (firmware_history b (state b acts).past) board
+    (firmware_legal b (state b acts).past mirror.legal.0)).slots out
 
 pub returns-clause-runs : goal.returns-clause-runs
 returns-clause-runs c = λ b acts s act run so is. ((is.may, run), (is.so, so))

@@ -1,15 +1,14 @@
 -- A frame is read as it is spelled: what is refused is none, and what is read is no other.
 use Rattle.std.proofs.Common.{◌∙◌, ap, subst, sym}
 use Rattle.psci_ctl.specs.Seen.{ControllerValue}
-use Rattle.psci_link.specs.declared.frame.Frame.{Frame}
-use Rattle.psci_link.specs.declared.frame.Frame.TheVariants as frames
+use Rattle.psci_link.specs.declared.encoding.Frame.{Frame}
+use Rattle.psci_link.specs.declared.encoding.Frame.TheVariants as frames
 use Rattle.psci_link.specs.Frame.{IsOf}
 use Rattle.psci_control.specs.ControlSide.{board_of, waits_in}
 use Rattle.psci_ctl_spec.specs.declared.call.CtlCall.TheVariants.{Deliver}
 use Rattle.psci_messages.specs.Message.{MessageValue}
-use Rattle.psci_ffi.specs.ControlCalls.{IsGivenIf}
-use Rattle.psci_ffi.proofs.Taking.{not-both, of-same}
-use Rattle.psci_ffi.proofs.Switching.{one_message}
+use Rattle.psci_ffi.specs.Controls.{IsGivenIf}
+use Rattle.psci_ffi.proofs.Making.{not-both, of-same, one_message}
 use Rattle.psci_ffi.proofs.control_calls.give.Goals as goal
 
 pub returns-in-Err-clause-ack : goal.returns-in-Err-clause-ack

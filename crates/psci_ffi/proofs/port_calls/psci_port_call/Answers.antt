@@ -1,6 +1,6 @@
 -- A call begins with what C holds of a monitor that runs.
 use Rattle.std.proofs.Common.{◌∙◌, sym}
-use Rattle.psci_ffi.proofs.PortKept.{keeps}
+use Rattle.psci_ffi.proofs.Crossing.{keeps}
 use Rattle.psci_ffi.proofs.port_calls.psci_port_call.Goals as goal
 
 -- src/port_calls.rt:65:5

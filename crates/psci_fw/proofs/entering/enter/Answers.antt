@@ -1,14 +1,13 @@
 -- A core that enters halts, goes its way or is parked.
 use Rattle.std.proofs.Common.{◌≡◌, None, false, sym, ap, ◌∙◌}
-use Rattle.psci_fw_spec.specs.Changes.{with_arrival}
-use Rattle.psci_fw_spec.specs.Lives.{in_life}
+use Rattle.psci_fw_spec.specs.Changes.{in_life, with_arrival}
 use Rattle.psci_fw_spec.specs.Values.{Values}
 use Rattle.psci_fw_state.specs.Seen.{values_in}
 use Rattle.psci_fw.specs.Reactions.{outcome_in}
 use Rattle.psci_fw.specs.Ways.{way_on}
-use Rattle.psci_fw.proofs.Answered.{arrived_away, fault_inside, halted_outcome, left_may}
-use Rattle.psci_fw.proofs.Answered.{leaving_off, no_way, parked, way_outcome}
-use Rattle.psci_fw.proofs.Stopping.{park_outcome}
+use Rattle.psci_fw.proofs.Answered.{arrived_away, fault_inside, halted_outcome, leaving_off}
+use Rattle.psci_fw.proofs.Answered.{left_may, no_way, park_outcome, parked, way_outcome}
+use Rattle.psci_fw_spec.proofs.Always.{park_is_claim}
 use Rattle.psci_fw.proofs.entering.enter.Goals as goal
 
 pub returns-then-halting-clause-answer : goal.returns-then-halting-clause-answer
@@ -39,7 +38,7 @@ send_down-requires g c =
     let parks = no_way (in_life b s.life v) core s none in
     record {
       inside = rw at inside;
-      claims = rw same (c.law_stops.ensures.parks b v core s
+      claims = rw same (park_is_claim b v core s
           c.requires.firmware.board inside c.requires.firmware.values awake parks.0);
       may = left_may b _ (with_arrival b core s v) _ core _ _ at away same
           (c.law_may_claim.ensures.parks b v core s c.requires.firmware.board inside

@@ -1,15 +1,14 @@
 -- What may be claimed, of each way in which a core stops.
 use Rattle.std.proofs.Common.{refl}
 use Rattle.psci_abi.specs.declared.request.Request.TheVariants as requests
-use Rattle.psci_state.specs.Ask.{deepest_of}
+use Rattle.psci_state.specs.PowerState.{deepest_of}
 use Rattle.psci_board.specs.Board.{height}
-use Rattle.psci_fw_spec.specs.Changes.{with_arrival}
-use Rattle.psci_fw_spec.specs.Claims.{off_parts}
-use Rattle.psci_fw_spec.specs.Lives.{in_life}
-use Rattle.psci_fw_spec.specs.Views.{view}
-use Rattle.psci_fw.proofs.Stopping.{arrived_free, few_off, few_suspended, nested_after}
-use Rattle.psci_fw.proofs.Stopping.{nested_parked, off_outcome, park_outcome, running_free}
-use Rattle.psci_fw.proofs.Stopping.{suspend_outcome, system_outcome}
+use Rattle.psci_fw_spec.specs.Changes.{in_life, with_arrival}
+use Rattle.psci_fw_spec.specs.PowerCalls.{off_parts}
+use Rattle.psci_fw_spec.specs.Invariant.{view}
+use Rattle.psci_fw.proofs.Answered.{arrived_free, few_off, few_suspended, nested_after}
+use Rattle.psci_fw.proofs.Answered.{nested_parked, off_outcome, park_outcome, running_free}
+use Rattle.psci_fw.proofs.Answered.{suspend_outcome, system_outcome}
 use Rattle.psci_fw.proofs.laws.law_may_claim.Goals as goal
 
 pub returns-clause-off : goal.returns-clause-off

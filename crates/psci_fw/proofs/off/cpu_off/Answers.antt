@@ -1,6 +1,7 @@
 -- A core that goes off claims what it leaves.
 use Rattle.psci_fw_state.specs.Seen.{values_in}
 use Rattle.psci_fw.proofs.Answered.{leaving_off, left_may, off_answered}
+use Rattle.psci_fw_spec.proofs.Always.{off_is_claim}
 use Rattle.psci_fw.proofs.off.cpu_off.Goals as goal
 
 pub send_down-requires : goal.send_down-requires
@@ -12,7 +13,7 @@ send_down-requires c =
     c.leaving_wish-wish.ensures in
     record {
       inside = rw c.leave.ensures.board c.requires.inside;
-      claims = rw same (c.law_stops.ensures.off board v core c.requires.board
+      claims = rw same (off_is_claim board v core c.requires.board
           c.requires.inside c.requires.values c.requires.running);
       may = left_may board _ v _ core _ _ c.leave.ensures.board c.leave.ensures.after same
           (c.law_may_claim.ensures.off board v core c.requires.board c.requires.inside

@@ -1,6 +1,6 @@
 -- The answers to SYSTEM_RESET2 and PSCI_FEATURES are those of their arguments.
 use Rattle.std.proofs.Common.{ap, ◌∙◌}
-use Rattle.psci_fw_spec.specs.Outcomes.{returns}
+use Rattle.psci_fw_spec.specs.PowerCalls.{returns}
 use Rattle.psci_fw_state.specs.Seen.{values_in}
 use Rattle.psci_fw.specs.Reactions.{outcome_in}
 use Rattle.psci_fw.proofs.Answered.{goes_on}

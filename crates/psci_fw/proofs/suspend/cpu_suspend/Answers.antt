@@ -1,6 +1,6 @@
 -- A suspend with a sound entry point, below the start limit, is carried out.
 use Rattle.std.proofs.Common.{◌≡◌, sym, ◌∙◌, Ok, rules}
-use Rattle.psci_fw_spec.specs.CpuSuspend.{ask_named}
+use Rattle.psci_fw_spec.specs.PowerCalls.{ask_named}
 use Rattle.psci_fw_state.specs.Seen.{values_in}
 use Rattle.psci_fw.specs.Reactions.{outcome_in}
 use Rattle.psci_fw.proofs.Answered.{suspended_answered}

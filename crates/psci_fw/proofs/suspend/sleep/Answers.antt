@@ -6,6 +6,7 @@ use Rattle.psci_fw_spec.specs.Values.{Values}
 use Rattle.psci_fw_state.specs.Claims.{IsGrantable}
 use Rattle.psci_fw_state.specs.Seen.{values_in}
 use Rattle.psci_fw_state.specs.Wishes.{wished_in}
+use Rattle.psci_fw_spec.proofs.Always.{suspend_is_claim}
 use Rattle.psci_fw.proofs.suspend.sleep.Goals as goal
 
 -- What may be granted of the parts of a suspend, before it, may be granted after it.
@@ -17,7 +18,7 @@ send_down-requires c =
     let parts : List Part = wished_in c.suspend.new.self core c.in-Ok.wish in
     let before : IsGrantable board core parts granted = record {
       inside = c.requires.call.inside;
-      claims = c.law_stops.ensures.suspended board (values_in c.args.state.now) core c.args.ask
+      claims = suspend_is_claim board (values_in c.args.state.now) core c.args.ask
           parts c.requires.call.board c.requires.call.inside c.requires.call.values
           c.requires.call.running c.requires.may.shape c.in-Ok.ensures.parts;
       may = c.requires.may.may parts c.in-Ok.ensures.parts;

@@ -1,7 +1,7 @@
 -- The system may be suspended with the deepest ask.
 use Rattle.std.proofs.Common.{◌≡◌, sym, ◌∙◌}
 use Rattle.psci_board.specs.Board.{height}
-use Rattle.psci_state.specs.Ask.{deepest_of}
+use Rattle.psci_state.specs.PowerState.{deepest_of}
 use Rattle.psci_fw.proofs.system.system_suspend.Goals as goal
 
 pub sleep-requires-clause-may : goal.sleep-requires-clause-may

@@ -1,5 +1,5 @@
 -- What an acknowledgement confirms, exactly.
-use Rattle.psci_fw_laws.proofs.Confirming.{confirmed_only, confirmed_where}
+use Rattle.psci_fw_laws.proofs.Claiming.{confirmed_only, confirmed_where}
 use Rattle.psci_fw_laws.proofs.exactly.law_confirmed_exactly.Goals as goal
 
 pub returns : goal.returns

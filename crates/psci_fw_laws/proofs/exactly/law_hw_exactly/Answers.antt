@@ -1,6 +1,6 @@
 -- What NODE_HW_STATE says, exactly.
-use Rattle.psci_fw_laws.proofs.Confirming.{says_alike, says_off, says_on, says_standby}
-use Rattle.psci_fw_laws.proofs.Confirming.{unconfirmed_on}
+use Rattle.psci_fw_laws.proofs.Claiming.{says_alike, says_off, says_on, says_standby}
+use Rattle.psci_fw_laws.proofs.Claiming.{unconfirmed_on}
 use Rattle.psci_fw_laws.proofs.exactly.law_hw_exactly.Goals as goal
 
 pub returns-clause-off : goal.returns-clause-off

@@ -1,7 +1,6 @@
 -- A halting life: a core stops, and nothing is sent.
 use Rattle.psci_fw_spec.proofs.Words.{refl}
-use Rattle.psci_fw_spec.specs.Calls.{outcome_of}
-use Rattle.psci_fw_spec.specs.Entering.{enter_outcome}
+use Rattle.psci_fw_spec.specs.Answer.{enter_outcome, outcome_of}
 use Rattle.psci_fw_spec.proofs.answers.law_halting_life.Goals as goal
 
 pub returns-clause-calls : goal.returns-clause-calls

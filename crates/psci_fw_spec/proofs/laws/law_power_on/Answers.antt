@@ -1,6 +1,6 @@
 -- The target of an accepted CPU_ON was off.
 use Rattle.psci_fw_spec.proofs.Words.{arith, target}
-use Rattle.psci_fw_spec.proofs.Callers.{was_asked}
+use Rattle.psci_fw_spec.proofs.Changing.{was_asked}
 use Rattle.psci_fw_spec.proofs.laws.law_power_on.Goals as goal
 
 pub returns : goal.returns

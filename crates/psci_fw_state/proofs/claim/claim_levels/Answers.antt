@@ -1,16 +1,18 @@
 -- Level by level, the domain on the core's path gets a part, and is granted what it claims.
 use Rattle.std.proofs.Common.{◌++◌}
 use Rattle.psci_fw_state.proofs.Words.{◌+◌, ◌∙◌, ◌∷◌, ◌≡◌, ◌≤◌, [], ap, arith, granted_at}
-use Rattle.psci_fw_state.proofs.Words.{HasNodeIn, height, is_confirmed_at, length, List, Node, Part}
-use Rattle.psci_fw_state.proofs.Words.{refl, slice_get, Some, sym, up, view_of, wished_claims, ℕ}
+use Rattle.psci_fw_state.proofs.Words.{HasNodeIn, height, is_confirmed_at, length, List, Node}
+use Rattle.psci_fw_state.proofs.Words.{Part, refl, slice_get, Some, sym, up, view_of}
+use Rattle.psci_fw_state.proofs.Words.{wished_claims, ℕ}
 use Rattle.psci_tree.specs.Standing.{on_path as path_node}
 use Rattle.psci_messages.specs.View.{domain_of, generation}
 use Rattle.psci_coord.specs.Wish.{wanted}
-use Rattle.psci_coord.proofs.Climbing.{IsClimbedTo, climbed-ends, climbed-more, climbed-none}
-use Rattle.psci_coord.proofs.TreeView.{known-is, node-is, wanted-is}
-use Rattle.psci_fw_state.proofs.Claiming.{climbed_all, generation_kept, part_of_level, wanted_kept}
-use Rattle.psci_fw_state.proofs.Granting.{laid_all, laid_more, may_grant, on_path}
-use Rattle.psci_fw_state.proofs.Granting.{on_board, unconfirmed_all, unconfirmed_more}
+use Rattle.psci_coord.proofs.Climbing.{climbed-ends, climbed-more, climbed-none, IsClimbedTo}
+use Rattle.psci_coord.proofs.Climbing.{known-is, node-is, wanted-is}
+use Rattle.psci_fw_state.proofs.KeptCounts.{climbed_all, generation_kept, part_of_level}
+use Rattle.psci_fw_state.proofs.KeptCounts.{wanted_kept}
+use Rattle.psci_fw_state.proofs.Granting.{laid_all, laid_more, may_grant, on_board, on_path}
+use Rattle.psci_fw_state.proofs.Granting.{unconfirmed_all, unconfirmed_more}
 use Rattle.psci_fw_state.proofs.claim.claim_levels.Goals.{After-depth-depth, After-loop-level}
 use Rattle.psci_fw_state.proofs.claim.claim_levels.Goals.{Then-level-height}
 use Rattle.psci_fw_state.proofs.claim.claim_levels.Goals as goal

@@ -1,5 +1,5 @@
 -- What was saved goes on.
-use Rattle.psci_guest.proofs.SavedParts.{goes_on, SavedLaws, whole}
+use Rattle.psci_guest.proofs.Sound.{goes_on, whole}
 use Rattle.psci_guest.proofs.saving.law_goes_on.Goals as goal
 
 pub returns-clause-goes_on : goal.returns-clause-goes_on

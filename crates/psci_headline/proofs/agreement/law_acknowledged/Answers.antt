@@ -1,5 +1,5 @@
 -- How acknowledgements were made.
-use Rattle.psci_headline.proofs.Making.{was_made}
+use Rattle.psci_headline.proofs.Nexts.{was_made}
 use Rattle.psci_headline.proofs.agreement.law_acknowledged.Goals as goal
 
 pub returns : goal.returns

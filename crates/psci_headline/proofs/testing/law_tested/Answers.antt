@@ -1,8 +1,7 @@
 -- The world is safe where its tests say so.
-use Rattle.psci_headline.proofs.AllTested.{always_tested, safe_tested, tested_safe}
-use Rattle.psci_headline.proofs.Once.{entries_tested}
-use Rattle.psci_headline.proofs.Tested.{asked_tested, off_tested, one_tested, powered_tested}
-use Rattle.psci_headline.proofs.Tested.{states_tested}
+use Rattle.psci_headline.proofs.Tested.{always_tested, asked_tested, entries_tested, off_tested}
+use Rattle.psci_headline.proofs.Tested.{one_tested, powered_tested, safe_tested, states_tested}
+use Rattle.psci_headline.proofs.Tested.{tested_safe}
 use Rattle.psci_headline.proofs.testing.law_tested.Goals as goal
 
 pub returns-clause-tested : goal.returns-clause-tested

@@ -1,7 +1,6 @@
 -- What is read is held, and is what is spelled so; what is refused is not spelled so.
 use Rattle.std.proofs.Common.{arith}
-use Rattle.psci_link.proofs.Frames.{not-refused}
-use Rattle.psci_link.proofs.Reading.{read-whole, spelled-whole}
+use Rattle.psci_link.proofs.Frames.{not-refused, read-whole, spelled-whole}
 use Rattle.psci_link.proofs.decoding.decode.Goals as goal
 
 pub returns-in_err-heading-clause-spelled : goal.returns-in_err-heading-clause-spelled

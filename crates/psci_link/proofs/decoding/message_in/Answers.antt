@@ -1,5 +1,5 @@
 -- There is room for its parts.
-use Rattle.psci_link.proofs.Reading.{few-held}
+use Rattle.psci_link.proofs.Frames.{few-held}
 use Rattle.psci_link.proofs.decoding.message_in.Goals as goal
 
 pub counted_parts-requires-clause-few : goal.counted_parts-requires-clause-few

@@ -4,7 +4,7 @@ use Rattle.std.proofs.lemmas.Grind.{common_steps}
 use Rattle.std.proofs.lemmas.List.Elements.{All-more, All-same, recursion_from_All}
 use Rattle.std.proofs.lemmas.List.{take_all}
 use Rattle.psci_link.specs.Frame.{part_fields}
-use Rattle.psci_messages.proofs.PartLevels.{level-of}
+use Rattle.psci_messages.proofs.History.{level-of}
 use Rattle.psci_link.proofs.encoding.join.Goals as goal
 
 pub put_part-requires-clause-level : goal.put_part-requires-clause-level

@@ -1,6 +1,6 @@
 -- The header's fields are in their places.
 use Rattle.std.proofs.Common.{arith, ap, length}
-use Rattle.psci_link.proofs.PutBytes.{header_put}
+use Rattle.psci_link.proofs.Places.{header_put}
 use Rattle.psci_link.proofs.encoding.put_header.Goals as goal
 
 pub returns : goal.returns

@@ -1,6 +1,6 @@
 -- A part is spelled by its level, its depth and its generation.
 use Rattle.std.proofs.Common.{◌∙◌, ap, ◌∷◌}
-use Rattle.psci_link.proofs.PutBytes.{part_put}
+use Rattle.psci_link.proofs.Places.{part_put}
 use Rattle.psci_link.proofs.encoding.put_part.Goals as goal
 
 pub returns-clause-bytes : goal.returns-clause-bytes

@@ -1,5 +1,5 @@
 -- Each clause is one direction.
-use Rattle.psci_messages.proofs.PartLevels.{claim-from, part-by-part}
+use Rattle.psci_messages.proofs.History.{claim-from, part-by-part}
 use Rattle.psci_messages.proofs.laws.law_parts.Goals as goal
 
 pub returns-clause-claim : goal.returns-clause-claim

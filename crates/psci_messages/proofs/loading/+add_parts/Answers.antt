@@ -1,7 +1,7 @@
 -- A part is added, and those of the words behind it.
 use Rattle.std.proofs.Common.{◌≡◌, ◌+◌, length, arith}
-use Rattle.psci_messages.proofs.SavedSlices.{pair_at, parts_added, pushed_long, rest_long}
-use Rattle.psci_messages.proofs.SavedWords.{weaker}
+use Rattle.psci_messages.proofs.SavedSlots.{pair_at, parts_added, pushed_long, rest_long}
+use Rattle.psci_messages.proofs.SavedLaws.{weaker}
 use Rattle.psci_messages.proofs.loading.+add_parts.Goals as goal
 
 pub add_parts-requires : goal.add_parts-requires

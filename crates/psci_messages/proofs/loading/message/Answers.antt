@@ -1,7 +1,7 @@
 -- A message has the parts of its kind, and its words are those that it was read from.
 use Rattle.std.proofs.Common.{ℕ, ◌∷◌, ap, ◌∙◌}
 use Rattle.psci_messages.specs.Saved.{part_words, parts_from}
-use Rattle.psci_messages.proofs.SavedMessages.{of_kind}
+use Rattle.psci_messages.proofs.SavedSlots.{of_kind}
 use Rattle.psci_messages.proofs.loading.message.Goals as goal
 
 pub invariant_of-result : goal.invariant_of-result

@@ -1,5 +1,5 @@
 -- The words begin with the kind of a message.
-use Rattle.psci_messages.proofs.SavedSlices.{of_message_at}
+use Rattle.psci_messages.proofs.SavedSlots.{of_message_at}
 use Rattle.psci_messages.proofs.loading.message_of.Goals as goal
 
 pub message-requires : goal.message-requires

@@ -1,5 +1,5 @@
 -- The parts of a kind are no deeper than power-down.
-use Rattle.psci_messages.proofs.SavedWords.{deep_of}
+use Rattle.psci_messages.proofs.SavedLaws.{deep_of}
 use Rattle.psci_messages.proofs.loading.parts_of.Goals as goal
 
 pub add_parts-requires-clause-deep : goal.add_parts-requires-clause-deep

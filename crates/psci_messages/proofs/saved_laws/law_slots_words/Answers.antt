@@ -1,6 +1,5 @@
 -- How many words there are, that they are such as are loaded, and what they tell.
-use Rattle.psci_messages.proofs.SavedLaws.{same, whole}
-use Rattle.psci_messages.proofs.SavedWords.{many_words}
+use Rattle.psci_messages.proofs.SavedLaws.{many_words, same, whole}
 use Rattle.psci_messages.proofs.saved_laws.law_slots_words.Goals as goal
 
 pub returns-clause-count : goal.returns-clause-count

@@ -1,8 +1,7 @@
 -- The answer is that of the reason, if there is one.
 use Rattle.std.proofs.Common.{◌∙◌, ap, Ok}
-use Rattle.psci_messages.specs.Claim.{own_claims}
+use Rattle.psci_messages.specs.Claim.{answer_by, last_core_check, own_claims}
 use Rattle.psci_messages.specs.Looked.{view_of}
-use Rattle.psci_messages.specs.LastCore.{answer_by, last_core_check}
 use Rattle.psci_osi.proofs.last_core.check.Goals as goal
 
 pub returns-in-Some : goal.returns-in-Some

@@ -1,13 +1,12 @@
 -- Each child adds its reason.
 use Rattle.std.proofs.Common.{◌≡◌, ◌+◌, ◌<◌, ◌∙◌, sym, ap, refl, arith, Some}
-use Rattle.psci_board.specs.declared.node.Node.{Node}
+use Rattle.psci_board.specs.declared.draft.Node.{Node}
 use Rattle.psci_board.specs.Board.{child, children}
 use Rattle.psci_messages.specs.Looked.{view_of}
-use Rattle.psci_messages.specs.LastCore.{refusal}
+use Rattle.psci_messages.specs.Claim.{refusal}
 use Rattle.psci_osi.specs.Worse.{worse}
-use Rattle.psci_osi.proofs.Gathered.{child-refusal-more}
-use Rattle.psci_osi.proofs.Refusals.{child_refuses, worse-none}
-use Rattle.psci_osi.proofs.Siblings.{has_child, none_first, nth_child}
+use Rattle.psci_osi.proofs.Gathered.{child-refusal-more, child_refuses, has_child, none_first}
+use Rattle.psci_osi.proofs.Gathered.{nth_child, worse-none}
 use Rattle.psci_osi.proofs.last_core.level_refusal.Goals.{in-Some-child_refusal}
 use Rattle.psci_osi.proofs.last_core.level_refusal.Goals.{in_default-child_refusal}
 use Rattle.psci_osi.proofs.last_core.level_refusal.Goals as goal

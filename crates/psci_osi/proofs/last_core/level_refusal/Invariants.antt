@@ -1,6 +1,6 @@
 -- The reason so far is that of the children so far.
 use Rattle.std.proofs.Common.{◌≡◌}
-use Rattle.psci_messages.specs.LastCore.{refusal, granted_less, elsewhere}
+use Rattle.psci_messages.specs.Claim.{refusal, granted_less, elsewhere}
 use Rattle.psci_messages.specs.Looked.{view_of}
 use Rattle.psci_osi.proofs.Gathered.{first_children}
 use Rattle.psci_osi.proofs.last_core.level_refusal.Given as goal

@@ -2,7 +2,7 @@
 use Rattle.std.proofs.Common.{◌≡◌, ◌∙◌, ◌+◌, ℕ, ap, refl, arith}
 use Rattle.psci_board.specs.Board.{height}
 use Rattle.psci_messages.specs.Looked.{view_of}
-use Rattle.psci_messages.specs.LastCore.{refusal, shallow}
+use Rattle.psci_messages.specs.Claim.{refusal, shallow}
 use Rattle.psci_osi.proofs.Gathered.{shallow_to, path-refusal-more, tree-at}
 use Rattle.psci_osi.proofs.last_core.path_refusal.Goals as goal
 

@@ -1,6 +1,6 @@
 -- The reason so far is that of the levels so far.
 use Rattle.std.proofs.Common.{◌≡◌}
-use Rattle.psci_messages.specs.LastCore.{refusal}
+use Rattle.psci_messages.specs.Claim.{refusal}
 use Rattle.psci_messages.specs.Looked.{view_of}
 use Rattle.psci_osi.proofs.Gathered.{shallow_to}
 use Rattle.psci_osi.proofs.last_core.path_refusal.Given as goal

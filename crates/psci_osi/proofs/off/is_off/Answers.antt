@@ -1,7 +1,7 @@
 -- Every core below is off where as many are off as stand below.
 use Rattle.std.proofs.Common.{◌∙◌, ap, length, sym}
 use Rattle.std.proofs.lemmas.List.FromFn.{length-range_with_len}
-use Rattle.psci_osi.proofs.Counts.{off-is, has-span}
+use Rattle.psci_osi.proofs.Gathered.{off-is, has-span}
 use Rattle.psci_osi.proofs.off.is_off.Goals as goal
 
 pub returns-in-Some : goal.returns-in-Some

@@ -2,7 +2,7 @@
 use Rattle.std.proofs.Common.{◌∙◌, ap}
 use Rattle.psci_messages.specs.Claim.{own_claims}
 use Rattle.psci_messages.specs.Looked.{view_of}
-use Rattle.psci_osi.proofs.Climbs.{own-off}
+use Rattle.psci_osi.proofs.Gathered.{own-off}
 use Rattle.psci_osi.proofs.off.off_ask.Goals as goal
 
 pub returns : goal.returns

@@ -1,7 +1,7 @@
 -- The word of a core has the fields of its domains.
 use Rattle.std.proofs.lemmas.Grind.{common_steps}
 use Rattle.psci_platform.proofs.Words.{arith}
-use Rattle.psci_platform.proofs.Addresses.{fields}
+use Rattle.psci_platform.proofs.Named.{fields}
 use Rattle.psci_platform.proofs.cores.affinity_word.Goals as goal
 
 pub returns : goal.returns

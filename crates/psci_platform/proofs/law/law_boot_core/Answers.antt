@@ -1,8 +1,8 @@
 -- A boot core that is swapped with core 0 is a renumbering of the board.
 use Rattle.psci_fw_spec.specs.declared.call.FwCall.TheVariants as calls
 use Rattle.psci_platform.proofs.Words.{boot_place, BoardValue, IsBoard, regs_for, swap_for}
-use Rattle.psci_platform.proofs.Swapping.{calls_by_swap, laws_of, renumbering}
-use Rattle.psci_platform.proofs.Unmoved.{BoardLaws, laws_on, own_place}
+use Rattle.psci_platform.proofs.Swaps.{calls_by_swap, laws_of, renumbering}
+use Rattle.psci_platform.proofs.Named.{BoardLaws, laws_on, own_place}
 use Rattle.psci_platform.proofs.law.law_boot_core.Goals as goal
 
 pub returns : goal.returns

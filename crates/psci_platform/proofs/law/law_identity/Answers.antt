@@ -1,8 +1,9 @@
 -- With the identity of a board the platform is the firmware.
 use Rattle.psci_platform.proofs.Words.{BoardValue, IsBoard}
-use Rattle.psci_platform.proofs.OwnCalls.{Laws, after_same, answer_same, asked_same}
-use Rattle.psci_platform.proofs.OwnCores.{faultless, first_boots}
-use Rattle.psci_platform.proofs.Unmoved.{laws_on}
+use Rattle.psci_platform.proofs.OwnCores.{after_same, answer_same, asked_same, faultless}
+use Rattle.psci_platform.proofs.OwnCores.{first_boots, Laws}
+use Rattle.psci_platform.proofs.Named.{laws_on}
+use Rattle.psci_platform.proofs.OwnStates.{state_laws}
 use Rattle.psci_platform.proofs.law.law_identity.Goals as goal
 
 pub returns : goal.returns
@@ -10,12 +11,7 @@ returns c =
     let laws : (b : BoardValue) → IsBoard b → Laws b = λ b board. record {
       tree = laws_on b board (c.law_sizes.ensures b board) (c.law_paths.ensures b board)
           (c.law_parents.ensures b board) (c.law_words.ensures b board);
-      states = record {
-        written = c.law_power_states.ensures.written;
-        read = c.law_power_states.ensures.read;
-        shape = c.law_power_states.ensures.shape;
-        test = c.law_power_states.ensures.test;
-      };
+      states = state_laws;
     } in
     record {
       faultless = λ b board. faultless b (laws b board).tree;

@@ -1,6 +1,6 @@
 -- Words that a platform does not have name nothing.
-use Rattle.psci_platform.proofs.Missing.{no_core_is_named, no_function_is_known}
-use Rattle.psci_platform.proofs.Missing.{no_node_is_named, no_power_state}
+use Rattle.psci_platform.proofs.Swaps.{no_core_is_named, no_function_is_known}
+use Rattle.psci_platform.proofs.Swaps.{no_node_is_named, no_power_state}
 use Rattle.psci_platform.proofs.law.law_missing.Goals as goal
 
 pub returns-clause-function : goal.returns-clause-function

@@ -1,6 +1,6 @@
 -- The MPIDRs of a description that has no fault name its cores.
 use Rattle.psci_platform.proofs.Named.{boot_is_zero, core_is_named}
-use Rattle.psci_platform.proofs.Checked.{some_count}
+use Rattle.psci_platform.proofs.ByWord.{some_count}
 use Rattle.psci_platform.proofs.law.law_mpidrs.Goals as goal
 
 pub returns-clause-count : goal.returns-clause-count

@@ -1,7 +1,7 @@
 -- An MPIDR names for the firmware what it names on the machine.
 use Rattle.psci_platform.proofs.Words.{boot_place, BoardValue, IsBoard}
-use Rattle.psci_platform.proofs.Swapping.{core_is, laws_of, node_is}
-use Rattle.psci_platform.proofs.Unmoved.{BoardLaws, laws_on}
+use Rattle.psci_platform.proofs.Swaps.{core_is, laws_of, node_is}
+use Rattle.psci_platform.proofs.Named.{BoardLaws, laws_on}
 use Rattle.psci_platform.proofs.law.law_named.Goals as goal
 
 pub returns : goal.returns

@@ -1,7 +1,7 @@
 -- A slot that is written has a name of the list.
 use Rattle.std.proofs.lemmas.List.{get_or_default}
 use Rattle.psci_platform.proofs.Words.{AreAmong, List, Name, subst, sym}
-use Rattle.psci_platform.proofs.Naming.{one_put}
+use Rattle.psci_platform.proofs.Swaps.{one_put}
 use Rattle.psci_platform.proofs.names.put_names.Goals as goal
 
 pub loop-name-preserved : goal.loop-name-preserved

@@ -2,7 +2,7 @@
 use Rattle.psci_platform.proofs.Words.{◌∙◌, ◌≡◌, ap, arith, Node, swap_for, sym, ℕ}
 use Rattle.psci_platform.specs.Swaps.{moved}
 use Rattle.psci_platform.proofs.Swapped.{core_inside}
-use Rattle.psci_platform.proofs.Unmoved.{own_place}
+use Rattle.psci_platform.proofs.Named.{own_place}
 use Rattle.psci_platform.proofs.swap.other_core.Goals as goal
 
 pub returns-then-boot-eq0-clause-number : goal.returns-then-boot-eq0-clause-number

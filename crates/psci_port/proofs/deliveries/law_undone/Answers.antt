@@ -1,61 +1,41 @@
 -- What a delivery leaves to be done.
 use Rattle.std.proofs.Common.{◌∙◌, ◌≡◌, List, Some, ap, subst, ℕ}
 use Rattle.psci_board.specs.Board.{BoardValue, IsBoard}
-use Rattle.psci_ctl_spec.specs.Legal.{IsSendable}
+use Rattle.psci_ctl_spec.specs.History.{IsSendable}
 use Rattle.psci_ctl_spec.specs.Values as controlled
 use Rattle.psci_ctl_spec.specs.declared.call.CtlCall.TheVariants as asked
 use Rattle.psci_ctl_spec.specs.psci_messages.Message.{MessageValue}
-use Rattle.psci_world_spec.specs.Histories.{controller_values, firmware_values, sent}
+use Rattle.psci_world_spec.specs.Legal.{controller_values, firmware_values, place, sent}
 use Rattle.psci_headline.specs.psci_fw_laws.Messages.{IsSound}
-use Rattle.psci_headline.specs.psci_fw_spec.Lives.{in_life}
-use Rattle.psci_headline.proofs.world_spec.Answered.{firmware_legal}
-use Rattle.psci_headline.proofs.BoardLaws.{BoardLaws, Given, is_given}
-use Rattle.psci_headline.proofs.Carried.{present_known}
+use Rattle.psci_headline.specs.psci_fw_spec.Changes.{in_life}
+use Rattle.psci_headline.proofs.Carried.{Given, is_given, present_known}
 use Rattle.psci_headline.proofs.Controls.{IsKnown}
-use Rattle.psci_headline.proofs.Items.{at_number}
-use Rattle.psci_headline.proofs.Sending.{sendable}
-use Rattle.psci_world_spec.specs.Places.{place}
+use Rattle.psci_headline.proofs.Sending.{at_number, sendable}
 use Rattle.psci_port.specs.Port.{Act, Port, state}
 use Rattle.psci_port.specs.Rules.{AreTrue, IsPortRun}
 use Rattle.psci_port.proofs.Mirrors.{IsMirror}
 use Rattle.psci_port.proofs.Truth.{run_world}
 use Rattle.psci_port.proofs.Undone.{leaves, listed}
+use Rattle.psci_board.proofs.Paths.{size_laws}
+use Rattle.psci_ctl_spec.proofs.Depths.{follows}
+use Rattle.psci_ctl_spec.proofs.Steps as controls
+use Rattle.psci_headline.proofs.fw_spec.Stopping.{values_more}
 use Rattle.psci_port.proofs.deliveries.law_undone.Goals as goal
-use Rattle.psci_port.proofs.deliveries.law_undone.Goals.{After-law_agreement}
 
-module _ (c : After-law_agreement) (b : BoardValue) (acts : List Act) (board : IsBoard b)
+module _ (b : BoardValue) (acts : List Act) (board : IsBoard b)
     (run : IsPortRun b acts) (so : AreTrue b acts) where
   abbrev p : Port
   p = state b acts
 
   mirror : IsMirror b p
-  mirror = run_world b (c.law_values.ensures.first b) (c.law_values.ensures.more b)
-      (c.law_values-2.ensures.more b) (λ has. (c.law_sizes.ensures b has).some 0) acts run so
-
-  laws : BoardLaws b
-  laws = search (
-    c.law_replies.ensures,
-    c.law_controlled.ensures,
-    c.law_kept.ensures.values,
-    c.law_kept.ensures.allowed,
-    c.law_caller.ensures.goes_on,
-    c.law_caller.ensures.asks_on,
-    c.law_sums.ensures,
-    c.law_parts.ensures.parts,
-    c.law_paths.ensures,
-    c.law_acknowledgements.ensures,
-    c.law_agreement.ensures,
-    c.law_limits.ensures.legal,
-    c.law_sent.ensures,
-    c.law_kept.ensures.kept,
-    firmware_legal,
-  )
+  mirror = run_world b (controls.first_values b) (controls.values_more b) (values_more b)
+      (λ has. (size_laws b has).some 0) acts run so
 
   given : Given b p.past
-  given = is_given b p.past laws mirror.legal.0
+  given = is_given b p.past board mirror.legal.0
 
   can : (m : MessageValue) → IsSound b m → IsSendable b m
-  can m sound = sendable b m ((c.law_sizes.ensures b board).most 0) sound
+  can m sound = sendable b m ((size_laws b board).most 0) sound
 
   known : (life : ℕ) → p.values.life ≡ Some life
       → IsKnown b life p.values.starts (in_life b life (firmware_values b p.past)) (sent p.past)
@@ -68,18 +48,18 @@ module _ (c : After-law_agreement) (b : BoardValue) (acts : List Act) (board : I
 pub returns-clause-leaves : goal.returns-clause-leaves
 returns-clause-leaves c = λ b acts k m board run so at.
     let place = at_number (sent (state b acts).past) k m at in
-    let sound = ((given c b acts board run so).holds.messages place.index m place.at).sound in
+    let sound = ((given b acts board run so).holds.messages place.index m place.at).sound in
     leaves b (state b acts).values
     (λ life. in_life b life (firmware_values b (state b acts).past)) (sent (state b acts).past) k m
-    (known c b acts board run so) at
-    (c.law_replies.ensures b (state b acts).values (asked.Deliver m) board
-    (can c b acts board run so m sound))
+    (known b acts board run so) at
+    (follows b (state b acts).values (asked.Deliver m) board
+    (can b acts board run so m sound))
 
 pub returns-clause-listed : goal.returns-clause-listed
 returns-clause-listed c = λ b acts slot m board run so out.
     listed b (firmware_values b (state b acts).past).life
     (firmware_values b (state b acts).past).known (firmware_values b (state b acts).past).phase
     (sent (state b acts).past) (firmware_values b (state b acts).past).outstanding
-    (given c b acts board run so).holds.slots
-    (λ j x here. can c b acts board run so x
-    ((given c b acts board run so).holds.messages j x here).sound) slot m out
+    (given b acts board run so).holds.slots
+    (λ j x here. can b acts board run so x
+    ((given b acts board run so).holds.messages j x here).sound) slot m out

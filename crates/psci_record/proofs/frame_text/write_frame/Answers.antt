@@ -1,7 +1,9 @@
 -- Byte by byte from the last.
-use Rattle.std.proofs.Common.{◌<◌, ◌≤◌, drop, length, arith, ◌∙◌, sym}
+use Rattle.std.proofs.Common.{◌++◌, ◌<◌, ◌≡◌, ◌≤◌, drop, length, arith, ◌∙◌, subst, sym}
 use Rattle.std.proofs.lemmas.List.{length-drop}
-use Rattle.psci_record.proofs.FrameDigits.{at_end, leaves_out, writes_byte, writes_zero}
+use Rattle.psci_record.specs.Texts.{bytes_text}
+use Rattle.psci_record.proofs.RadixDigits.{as_it_is, at_end, first_byte, leaves_out, writes_byte}
+use Rattle.psci_record.proofs.RadixDigits.{writes_zero}
 use Rattle.psci_record.proofs.frame_text.write_frame.Goals as goal
 
 pub loop-left-init : goal.loop-left-init
@@ -58,3 +60,36 @@ loop-left-preserved c =
           ∙ omega (arith, c.if-start-end.false, l.invariant.1, l.auto.room)
           ∙ sym (length-drop c.args.end c.args.room.now)),
     )
+
+pub returns-then-start-end-2-clause-written : goal.returns-then-start-end-2-clause-written
+returns-then-start-end-2-clause-written c =
+    let l = c.loop-left in
+    let frame = c.args.frame.now in
+    let tail = drop c.args.end c.args.room.now in
+    let none : l.left ≡ 0 = omega (arith, c.loop-left-test.false) in
+    as_it_is (bytes_text frame) tail (drop l.start l.room)
+    (λ same. omega (
+      arith,
+      c.if-start-end-2.true,
+      same,
+      length-drop l.start l.room,
+      length-drop c.args.end c.args.room.now,
+      l.auto.room,
+      c.requires.within,
+    ))
+    (subst (λ k. drop l.start l.room ≡ bytes_text (drop k frame) ++ tail) none l.invariant.3)
+
+pub returns-clause-written : goal.returns-clause-written
+returns-clause-written c =
+    let l = c.loop-left in
+    let frame = c.args.frame.now in
+    let tail = drop c.args.end c.args.room.now in
+    let none : l.left ≡ 0 = omega (arith, c.loop-left-test.false) in
+    let all : l.start ≡ c.args.end = omega (arith, c.if-start-end-2.false, l.invariant.1) in
+    first_byte (bytes_text frame) tail (drop c.args.end l.room)
+    (drop c.write_byte.result c.write_byte.new.room)
+    (length-drop c.args.end l.room ∙ omega (arith, l.auto.room)
+    ∙ sym (length-drop c.args.end c.args.room.now))
+    (subst (λ k. drop k l.room ≡ bytes_text frame ++ tail) all
+    (subst (λ k. drop l.start l.room ≡ bytes_text (drop k frame) ++ tail) none l.invariant.3))
+    c.write_byte.ensures.written

@@ -1,6 +1,6 @@
 -- The line is moved to where the room begins.
 use Rattle.std.proofs.Common.{◌-◌, ap, take, ◌∙◌}
-use Rattle.psci_record.proofs.LineFeeds.{moved}
+use Rattle.psci_record.proofs.RadixDigits.{moved}
 use Rattle.psci_record.proofs.room.move_line.Goals as goal
 
 pub returns-clause-moved : goal.returns-clause-moved

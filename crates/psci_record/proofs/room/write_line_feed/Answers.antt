@@ -1,5 +1,5 @@
 -- The line feed is the last byte.
-use Rattle.psci_record.proofs.LineFeeds.{line_feed_last}
+use Rattle.psci_record.proofs.RadixDigits.{line_feed_last}
 use Rattle.psci_record.proofs.room.write_line_feed.Goals as goal
 
 pub returns-clause-written : goal.returns-clause-written

@@ -1,6 +1,6 @@
 -- The line feed ends the answer's line.
 use Rattle.std.proofs.Common.{rules}
-use Rattle.psci_script.proofs.LineFeeds.{line_feed_last}
+use Rattle.psci_script.proofs.KeptLines.{line_feed_last}
 use Rattle.psci_script.proofs.answer_line.write_answer.Goals as goal
 
 pub returns-clause-line : goal.returns-clause-line

@@ -1,7 +1,7 @@
 -- The board line and the lines of the first records are written.
 use Rattle.std.proofs.Common.{take}
 use Rattle.std.specs.Io.KnownBytes.{Appends}
-use Rattle.psci_script.specs.Kept.{script_text}
+use Rattle.psci_script.specs.EventText.{script_text}
 use Rattle.psci_script.proofs.keeping.write_script.Given as goal
 
 abbrev pub invariant-records : goal.invariant-records

@@ -1,6 +1,5 @@
 -- What is spelled is read again, and what is read is spelled so.
-use Rattle.psci_script.proofs.EventLines.{line_takes}
-use Rattle.psci_script.proofs.SpelledLines.{line_again}
+use Rattle.psci_script.proofs.EventLines.{line_again, line_takes}
 use Rattle.psci_script.proofs.laws.law_event_lines.Goals as goal
 
 pub returns : goal.returns

@@ -2,14 +2,12 @@
 use Rattle.std.proofs.Common.{ℕ, List, take, subst, sym, Some, None, Ok, Err, refl}
 use Rattle.psci_script.specs.declared.fault.ReplayFault.{ReplayFault}
 use Rattle.psci_script.specs.declared.fault.ReplayFault.TheVariants.{Memory}
-use Rattle.psci_script.specs.Block.{ReadAhead}
-use Rattle.psci_script.specs.Progress.{progress, progress_of}
-use Rattle.psci_script.specs.Run.{BoardRead}
+use Rattle.psci_script.specs.EventText.{ReadAhead}
+use Rattle.psci_script.specs.Progress.{BoardRead, progress, progress_of}
 use Rattle.psci_script.specs.Told.{EndsBy, IsUnderWay}
-use Rattle.psci_script.proofs.Ends.{ends_empty}
+use Rattle.psci_script.proofs.Ends.{ends_empty, goes_ahead}
 use Rattle.psci_script.proofs.Steps.{begun, board_not, finds_as, goes_not, if_err_so, memory_out}
 use Rattle.psci_script.proofs.Steps.{room_of, same_answers}
-use Rattle.psci_script.proofs.Taking.{goes_ahead}
 use Rattle.psci_script.proofs.telling.begin.Goals as goal
 
 pub returns-in_err-extent-clause-err : goal.returns-in_err-extent-clause-err

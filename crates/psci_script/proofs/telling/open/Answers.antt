@@ -1,8 +1,7 @@
 -- What stands before the script waits.
 use Rattle.std.proofs.Common.{◌∙◌, ap, subst, sym, None}
 use Rattle.psci_script.specs.declared.fault.ReplayFault.TheVariants.{Memory}
-use Rattle.psci_script.specs.Answered.{Answered}
-use Rattle.psci_script.specs.Block.{ReadAhead}
+use Rattle.psci_script.specs.EventText.{Answered, ReadAhead}
 use Rattle.psci_script.specs.Progress.{Progress, progress}
 use Rattle.psci_script.specs.Told.{EndsBy, Goes}
 use Rattle.psci_script.proofs.Steps.{if_err_so, not_opened, opened}

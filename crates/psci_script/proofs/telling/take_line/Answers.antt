@@ -1,9 +1,7 @@
 -- A line is taken and told, or ends the script.
 use Rattle.std.proofs.Common.{ℕ, List, take, ◌+◌, subst, sym, refl}
-use Rattle.psci_script.specs.Line.{line_of}
-use Rattle.psci_script.specs.Block.{ReadAhead}
-use Rattle.psci_script.specs.Progress.{progress, progress_of}
-use Rattle.psci_script.specs.Run.{LineRefused}
+use Rattle.psci_script.specs.EventText.{line_of, ReadAhead}
+use Rattle.psci_script.specs.Progress.{LineRefused, progress, progress_of}
 use Rattle.psci_script.specs.Told.{IsUnderWay, LineTold}
 use Rattle.psci_script.proofs.Steps.{if_err_so, line_fault, line_goes, line_not, room_of}
 use Rattle.psci_script.proofs.telling.take_line.Goals as goal

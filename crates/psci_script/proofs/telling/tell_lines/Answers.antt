@@ -3,9 +3,8 @@ use Rattle.std.proofs.Common.{arith, ℕ, ◌+◌, subst, sym, Some, None, Ok}
 use Rattle.psci_script.specs.Progress.{progress_of}
 use Rattle.psci_script.specs.Told.{Ended}
 use Rattle.psci_script.proofs.Ahead.{same_more, sound_more}
-use Rattle.psci_script.proofs.Ends.{ends_well}
+use Rattle.psci_script.proofs.Ends.{ends_well, goes_ahead}
 use Rattle.psci_script.proofs.Steps.{finds_as, goes_not, runs_so, way_ahead}
-use Rattle.psci_script.proofs.Taking.{goes_ahead}
 use Rattle.psci_script.proofs.telling.tell_lines.Goals as goal
 
 pub returns-in_err-extent-clause-runs : goal.returns-in_err-extent-clause-runs

@@ -1,7 +1,7 @@
 -- The passes that are left agree exactly where all do.
 use Rattle.std.proofs.Common.{drop}
 use Rattle.std.specs.Prelude.{◌↔◌}
-use Rattle.psci_shared.specs.Agree.{AllAgree}
+use Rattle.psci_shared.specs.Places.{AllAgree}
 use Rattle.psci_shared.proofs.agreement.all_agree.Given as goal
 
 abbrev pub invariant-loop-pass : goal.invariant-loop-pass

@@ -2,7 +2,7 @@
 use Rattle.std.proofs.Common.{◌≡◌, ℕ, List, ◌∷◌, ◌+◌, ◌∙◌, drop, sym, ap, subst}
 use Rattle.std.proofs.lemmas.List.{drop_more}
 use Rattle.psci_shared.specs.Places.{RisesFrom, apart, begins_at, places}
-use Rattle.psci_shared.proofs.Walking.{goes_on, left_rises, meets, places_at, rises_low}
+use Rattle.psci_shared.proofs.Placed.{goes_on, left_rises, meets, places_at, rises_low}
 use Rattle.psci_shared.proofs.agreement.apart.Goals as goal
 
 pub returns-then-begins_at : goal.returns-then-begins_at

@@ -1,5 +1,5 @@
 -- The lemmas on a core's own calls.
-use Rattle.psci_shared.proofs.OwnCalls as own
+use Rattle.psci_shared.proofs.Crossing as own
 use Rattle.psci_shared.proofs.laws.law_own_calls.Goals as goal
 
 pub returns-clause-status : goal.returns-clause-status

@@ -1,5 +1,5 @@
 -- The lemmas on polls.
-use Rattle.psci_shared.proofs.Polling as polling
+use Rattle.psci_shared.proofs.Written as polling
 use Rattle.psci_shared.proofs.laws.law_polls.Goals as goal
 
 pub returns-clause-keeps : goal.returns-clause-keeps

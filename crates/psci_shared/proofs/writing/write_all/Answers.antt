@@ -1,7 +1,7 @@
 -- After a call the words of all cores have what the book says.
 use Rattle.std.proofs.Common.{ℕ, ◌∙◌, sym, subst, rules}
 use Rattle.std.specs.Prelude.{◌<◌}
-use Rattle.psci_fw.specs.Seen.{seen}
+use Rattle.psci_fw.specs.Reactions.{seen}
 use Rattle.psci_status.specs.Seats.{written}
 use Rattle.psci_shared.proofs.Unnamed.{nothing_to_write, others_stay, written_by_values}
 use Rattle.psci_shared.proofs.writing.write_all.Goals as goal

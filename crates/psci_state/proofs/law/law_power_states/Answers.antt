@@ -1,6 +1,5 @@
 -- The laws of the lemmas on words.
-use Rattle.psci_state.proofs.Words.{ask-test, word_read}
-use Rattle.psci_state.proofs.Back.{ask-from_test, word_back}
+use Rattle.psci_state.proofs.Words.{ask-from_test, ask-test, word_back, word_read}
 use Rattle.psci_state.proofs.law.law_power_states.Goals as goal
 
 pub returns-clause-written : goal.returns-clause-written

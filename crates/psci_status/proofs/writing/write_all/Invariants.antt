@@ -1,7 +1,7 @@
 -- The words of the cores so far are written, and the others are as they were.
 use Rattle.std.proofs.Common.{◌≡◌, ◌<◌, ◌≤◌, ℕ}
-use Rattle.psci_fw.specs.Seen.{seen}
-use Rattle.psci_fw_spec.specs.Lives.{first_status}
+use Rattle.psci_fw.specs.Reactions.{seen}
+use Rattle.psci_fw_spec.specs.Changes.{first_status}
 use Rattle.psci_fw_spec.specs.Statuses.{added}
 use Rattle.psci_status.specs.Lists.{row}
 use Rattle.psci_status.specs.Seats.{table_of_writer, written}

@@ -1,5 +1,5 @@
 -- The board, the words, the room and the ledger of the test.
-use Rattle.psci_shared.specs.Names.{no_table}
+use Rattle.psci_shared.specs.Locked.{no_table}
 use Rattle.psci_threads_tests.proofs.controller.told_of_starts.Given as goal
 
 abbrev pub ghosts-tell_of_starts-N-Named : goal.ghosts-tell_of_starts-N-Named

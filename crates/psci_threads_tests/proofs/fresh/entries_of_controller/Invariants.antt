@@ -1,5 +1,5 @@
 -- The board, the words, the room and the ledger of the test.
-use Rattle.psci_shared.specs.Names.{no_table}
+use Rattle.psci_shared.specs.Locked.{no_table}
 use Rattle.psci_threads_tests.proofs.fresh.entries_of_controller.Given as goal
 
 abbrev pub ghosts-gathered_controller-N-Named : goal.ghosts-gathered_controller-N-Named

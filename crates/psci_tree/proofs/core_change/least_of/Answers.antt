@@ -1,8 +1,7 @@
 -- One core more, and what it asks.
 use Rattle.psci_tree.proofs.Words.{◌++◌, ◌∷◌, [], ap, arith, CoreState, List, low_in, take}
-use Rattle.psci_tree.proofs.Words.{take_more}
-use Rattle.psci_tree.proofs.Words.{ℕ}
-use Rattle.psci_tree.proofs.Lows.{low-push}
+use Rattle.psci_tree.proofs.Words.{take_more, ℕ}
+use Rattle.psci_tree.proofs.Ranges.{low-push}
 use Rattle.psci_tree.proofs.core_change.least_of.Goals as goal
 
 pub loop-core-preserved : goal.loop-core-preserved

@@ -1,8 +1,8 @@
 -- The domain of each level is cleared, one after the other.
-use Rattle.psci_tree.proofs.Words.{◌≤◌, arith, confirmed_of, get_or, granted_of}
-use Rattle.psci_tree.proofs.Words.{length, length-map, List, map, Depths, refl, Way, ℕ}
+use Rattle.psci_tree.proofs.Words.{◌≤◌, arith, confirmed_of, Depths, get_or, granted_of, length}
+use Rattle.psci_tree.proofs.Words.{length-map, List, map, refl, Way, ℕ}
 use Rattle.psci_tree.specs.Way.{AreRows, LeadsTo}
-use Rattle.psci_tree.proofs.Clearing.{cleared_all, level_cleared}
+use Rattle.psci_tree.proofs.Gone.{cleared_all, level_cleared}
 use Rattle.psci_tree.proofs.Granted.{path_node}
 use Rattle.psci_tree.proofs.DepthRows.{DepthRow, depth_row}
 use Rattle.psci_tree.proofs.grants.clear_up.Goals as goal

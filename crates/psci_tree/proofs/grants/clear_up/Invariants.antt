@@ -1,6 +1,6 @@
 -- With what is left to clear from this level up, all is as cleared at once.
 use Rattle.psci_tree.proofs.Words.{map}
-use Rattle.psci_tree.proofs.Clearing.{IsClearedTo}
+use Rattle.psci_tree.proofs.Gone.{IsClearedTo}
 use Rattle.psci_tree.proofs.grants.clear_up.Given as goal
 
 abbrev pub invariant-loop-level : goal.invariant-loop-level

@@ -1,7 +1,7 @@
 -- What is confirmed after each change, by the lemmas on confirmed depths.
 use Rattle.psci_tree.proofs.Words.{arith}
 use Rattle.psci_tree.specs.Changes.{suspended, turned_off, made_pending, started, with_confirmed}
-use Rattle.psci_tree.proofs.Looked.{confirmed_laws}
+use Rattle.psci_tree.proofs.Seen.{confirmed_laws}
 use Rattle.psci_tree.proofs.laws.law_confirmed.Goals as goal
 
 pub returns : goal.returns

@@ -2,7 +2,7 @@
 use Rattle.psci_tree.proofs.Words.{arith}
 use Rattle.psci_tree.specs.Changes.{suspended, turned_off, made_pending, started}
 use Rattle.psci_tree.proofs.Granted.{grant_at}
-use Rattle.psci_tree.proofs.Looked.{granted_with}
+use Rattle.psci_tree.proofs.Seen.{granted_with}
 use Rattle.psci_tree.proofs.laws.law_granted.Goals as goal
 
 pub returns : goal.returns

@@ -1,9 +1,10 @@
 -- At the start of a life only the boot core is active, and its path is cleared.
 use Rattle.psci_tree.proofs.Words.{◌==◌, ◌∙◌, ◌≡◌, Active, all_off, ap, arith, cond, CoreState}
-use Rattle.psci_tree.proofs.Words.{false, known_at, never_started, place_above, with_core_state, ℕ}
+use Rattle.psci_tree.proofs.Words.{false, known_at, never_started, place_above, with_core_state}
+use Rattle.psci_tree.proofs.Words.{ℕ}
 use Rattle.psci_tree.specs.Changes.{made_pending, start_of_life}
-use Rattle.psci_tree.proofs.Looked.{core_with, core_off, cores_off, granted_with, granted_off}
-use Rattle.psci_tree.proofs.Looked.{confirmed_with, confirmed_off}
+use Rattle.psci_tree.proofs.Seen.{confirmed_off, confirmed_with, core_off, core_with, cores_off}
+use Rattle.psci_tree.proofs.Seen.{granted_off, granted_with}
 use Rattle.psci_tree.proofs.laws.law_start_of_life.Goals as goal
 
 pub returns-clause-cores : goal.returns-clause-cores

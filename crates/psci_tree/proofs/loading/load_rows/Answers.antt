@@ -1,10 +1,10 @@
 -- The depths of one level more are read.
-use Rattle.std.proofs.Common.{◌≡◌, ℕ, ◌<◌, ◌≤◌, List, [], length, map, get_or, drop, arith, ap}
-use Rattle.std.proofs.Common.{sym, take, ◌∙◌}
+use Rattle.std.proofs.Common.{◌<◌, ◌∙◌, ◌≡◌, ◌≤◌, [], ap, arith, drop, get_or, length, List, map}
+use Rattle.std.proofs.Common.{sym, take, ℕ}
 use Rattle.std.proofs.lemmas.List.{get_or-map, length-map, map-set, with_items_is}
 use Rattle.std.proofs.lemmas.List.Elements.{All-drop}
 use Rattle.psci_tree.specs.declared.depths.Depths.{Depths}
-use Rattle.psci_tree.proofs.SavedDepths.{row_left, row_loaded, row_sizes}
+use Rattle.psci_tree.proofs.SavedTrees.{row_left, row_loaded, row_sizes}
 use Rattle.psci_tree.proofs.SavedRows.{sum_left}
 use Rattle.psci_tree.proofs.loading.load_rows.Goals as goal
 

@@ -1,7 +1,7 @@
 -- How many words there are, that they are such as are loaded, and what they tell.
 use Rattle.std.proofs.Common.{sym, ap, ◌∙◌}
 use Rattle.psci_board.specs.Board.{size_below}
-use Rattle.psci_board.specs.psci_abi.declared.format.Format.TheVariants.{Extended}
+use Rattle.psci_board.specs.psci_abi.declared.registers.Format.TheVariants.{Extended}
 use Rattle.psci_tree.proofs.SavedCores.{Written, cores_good, cores_told, many_cores}
 use Rattle.psci_tree.proofs.SavedTrees.{activities, depths_good, many_depths, same_tree}
 use Rattle.psci_tree.proofs.saved_laws.law_tree_words.Goals.{After-law_power_states}

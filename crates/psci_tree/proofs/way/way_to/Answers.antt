@@ -1,10 +1,10 @@
 -- One level more of the way, by the number of the child and the place of its parent.
 use Rattle.std.proofs.Common.{get_or-set_other, get_or-set_same, below_more, length-set}
-use Rattle.psci_tree.proofs.Words.{◌+◌, ◌<◌, ◌∙◌, ◌≡◌, ◌≢◌, [], ap, arith, BoardValue, drop, get_or}
-use Rattle.psci_tree.proofs.Words.{group_of, length, List, Node, place_above}
+use Rattle.psci_tree.proofs.Words.{◌+◌, ◌<◌, ◌∙◌, ◌≡◌, ◌≢◌, [], ap, arith, BoardValue, drop}
+use Rattle.psci_tree.proofs.Words.{get_or, group_of, length, List, Node, place_above}
 use Rattle.psci_tree.proofs.Words.{place_above-suc, size_below, suc, sym, unwrap_or, ℕ}
 use Rattle.psci_board.proofs.Paths.{inside as place_inside}
-use Rattle.psci_tree.proofs.Steps.{parent_some}
+use Rattle.psci_tree.proofs.Changed.{parent_some}
 use Rattle.psci_tree.proofs.way.way_to.Goals.{In-loop-level}
 use Rattle.psci_tree.proofs.way.way_to.Goals as goal
 

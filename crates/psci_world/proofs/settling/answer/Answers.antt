@@ -1,6 +1,5 @@
 -- Two events happened, or none.
-use Rattle.psci_world.proofs.Settles.{settles_both, settles_none}
-use Rattle.psci_world.proofs.OnTheWay.{on_err, stops_answering}
+use Rattle.psci_world.proofs.OnTheWay.{on_err, settles_both, settles_none, stops_answering}
 use Rattle.psci_world.proofs.settling.answer.Goals as goal
 
 pub returns-in_default-clause-events : goal.returns-in_default-clause-events

@@ -1,7 +1,7 @@
 -- What is left of the cores leads to what all of them do.
 use Rattle.psci_headline.specs.Settling.{served}
 use Rattle.psci_world.specs.Settles.{serves_kind}
-use Rattle.psci_world.proofs.Settles.{IsAt}
+use Rattle.psci_world.proofs.OnTheWay.{IsAt}
 use Rattle.psci_world.proofs.settling.answer_each.Given as goal
 
 abbrev pub invariant-loop-number : goal.invariant-loop-number

@@ -1,7 +1,7 @@
 -- Three times all cores did something.
 use Rattle.std.proofs.Common.{◌∙◌}
-use Rattle.psci_world.proofs.Settles.{settles_both}
-use Rattle.psci_world.proofs.OnTheWay.{all_begun, on_err, stops_entering, stops_starting}
+use Rattle.psci_world.proofs.OnTheWay.{all_begun, on_err, settles_both, stops_entering}
+use Rattle.psci_world.proofs.OnTheWay.{stops_starting}
 use Rattle.psci_world.proofs.settling.begin.Goals as goal
 
 pub returns-in_err-answer_each-clause-events : goal.returns-in_err-answer_each-clause-events

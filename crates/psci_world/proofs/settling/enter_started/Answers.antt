@@ -2,8 +2,8 @@
 use Rattle.std.proofs.Common.{◌<◌, ap, arith}
 use Rattle.psci_machine.specs.psci_board.Board.{cores}
 use Rattle.psci_headline.specs.Settling.{entering}
-use Rattle.psci_world.proofs.Settles.{at_first, at_next, settles_both}
-use Rattle.psci_world.proofs.OnTheWay.{on_err, stops_each, way_entering}
+use Rattle.psci_world.proofs.OnTheWay.{at_first, at_next, on_err, settles_both, stops_each}
+use Rattle.psci_world.proofs.OnTheWay.{way_entering}
 use Rattle.psci_world.proofs.settling.enter_started.Goals as goal
 
 pub loop-number-init : goal.loop-number-init

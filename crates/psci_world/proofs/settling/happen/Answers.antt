@@ -1,8 +1,7 @@
 -- One event happened, or none.
 use Rattle.std.proofs.Common.{◌∷◌, ap, ◌∙◌}
 use Rattle.psci_machine.specs.psci_world_spec.declared.said.Record.{Record}
-use Rattle.psci_world.proofs.Settles.{settles_none, settles_one}
-use Rattle.psci_world.proofs.OnTheWay.{on_err, stops_step}
+use Rattle.psci_world.proofs.OnTheWay.{on_err, settles_none, settles_one, stops_step}
 use Rattle.psci_world.proofs.settling.happen.Goals as goal
 
 pub returns-in_err-step-clause-events : goal.returns-in_err-step-clause-events

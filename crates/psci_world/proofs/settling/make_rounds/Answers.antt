@@ -2,9 +2,8 @@
 use Rattle.std.proofs.Common.{◌∙◌, ◌+◌, ap, refl, sym, arith}
 use Rattle.psci_machine.specs.psci_board.Board.{height}
 use Rattle.psci_headline.specs.Settling.{rounds}
-use Rattle.psci_world.proofs.Settles.{settles_both, settles_none}
-use Rattle.psci_world.proofs.OnTheWay.{on_err, round_more, rounds_done, rounds_first, rounds_over}
-use Rattle.psci_world.proofs.OnTheWay.{stops_round}
+use Rattle.psci_world.proofs.OnTheWay.{on_err, round_more, rounds_done, rounds_first}
+use Rattle.psci_world.proofs.OnTheWay.{rounds_over, settles_both, settles_none, stops_round}
 use Rattle.psci_world.proofs.settling.make_rounds.Goals as goal
 
 pub loop-made-init : goal.loop-made-init

@@ -1,8 +1,8 @@
 -- A halting world is as it was; any other settles.
 use Rattle.std.proofs.Common.{ap}
 use Rattle.psci_world.specs.declared.settling.Settled.TheVariants.{Quiet}
-use Rattle.psci_world.proofs.Settles.{settles_both, settles_none}
-use Rattle.psci_world.proofs.OnTheWay.{all_settled, on_err, stops_beginning, stops_rounds}
+use Rattle.psci_world.proofs.OnTheWay.{all_settled, on_err, settles_both, settles_none}
+use Rattle.psci_world.proofs.OnTheWay.{stops_beginning, stops_rounds}
 use Rattle.psci_world.proofs.settling.settle_by_rounds.Goals as goal
 
 pub returns-then-is_halting-clause-events : goal.returns-then-is_halting-clause-events

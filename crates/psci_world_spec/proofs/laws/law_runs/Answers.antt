@@ -1,6 +1,6 @@
 -- To each list of events there is one legal run.
 use Rattle.std.proofs.Common.{[]}
-use Rattle.psci_world_spec.proofs.Runs.{goes_on, is_run, only_one, run_events, stays_legal}
+use Rattle.psci_world_spec.proofs.Scripts.{goes_on, is_run, only_one, run_events, stays_legal}
 use Rattle.psci_world_spec.proofs.laws.law_runs.Goals as goal
 
 pub returns : goal.returns

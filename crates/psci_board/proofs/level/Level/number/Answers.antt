@@ -1,6 +1,6 @@
 -- The number of a place is how far it is from the first child of its parent.
 use Rattle.psci_board.proofs.Terms.{arith, nat_tests, rules}
-use Rattle.psci_board.proofs.Groups.{Numbered, numbered}
+use Rattle.psci_board.proofs.More.{Numbered, numbered}
 use Rattle.psci_board.proofs.level.Level.number.Goals as goal
 
 number_at : (c : goal.After-parent)

@@ -1,8 +1,7 @@
 -- What the delivery of a message leaves.
 use Rattle.std.proofs.Common.{ap}
 use Rattle.psci_messages.specs.Message.{MessageValue}
-use Rattle.psci_control.proofs.Asked.{delivered_asked}
-use Rattle.psci_control.proofs.Gates.{goes_on}
+use Rattle.psci_control.proofs.Asked.{delivered_asked, goes_on}
 use Rattle.psci_control.proofs.control_side.ControlSide.hand_on.Goals as goal
 
 pub invariant_of-self-2 : goal.invariant_of-self-2

@@ -1,7 +1,7 @@
 -- What waits is of the board, and of its core.
 use Rattle.std.proofs.Common.{ap, Some}
 use Rattle.psci_messages.specs.Message.{MessageValue}
-use Rattle.psci_control.proofs.Gates.{holds}
+use Rattle.psci_control.proofs.Asked.{holds}
 use Rattle.psci_control.proofs.control_side.ControlSide.hold.Goals as goal
 
 pub invariant_of-self : goal.invariant_of-self

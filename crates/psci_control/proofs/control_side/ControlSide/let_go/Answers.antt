@@ -1,6 +1,6 @@
 -- Nothing waits.
 use Rattle.std.proofs.Common.{refl}
-use Rattle.psci_control.proofs.Gates.{frees, seen_core}
+use Rattle.psci_control.proofs.Asked.{frees, seen_core}
 use Rattle.psci_control.proofs.control_side.ControlSide.let_go.Goals as goal
 
 pub invariant_of-self : goal.invariant_of-self

@@ -1,6 +1,5 @@
 -- What a reset of a core leaves.
-use Rattle.psci_control.proofs.Asked.{reset_asked}
-use Rattle.psci_control.proofs.Gates.{goes_on}
+use Rattle.psci_control.proofs.Asked.{goes_on, reset_asked}
 use Rattle.psci_control.proofs.control_side.ControlSide.reset.Goals as goal
 
 pub invariant_of-self : goal.invariant_of-self

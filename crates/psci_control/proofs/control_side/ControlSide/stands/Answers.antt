@@ -1,6 +1,6 @@
 -- What waits is as before.
 use Rattle.std.proofs.Common.{refl}
-use Rattle.psci_control.proofs.Gates.{seen_core, stays}
+use Rattle.psci_control.proofs.Asked.{seen_core, stays}
 use Rattle.psci_control.proofs.control_side.ControlSide.stands.Goals as goal
 
 pub invariant_of-self : goal.invariant_of-self

@@ -1,6 +1,5 @@
 -- What a wake-up leaves.
-use Rattle.psci_control.proofs.Asked.{wake_asked}
-use Rattle.psci_control.proofs.Gates.{goes_on}
+use Rattle.psci_control.proofs.Asked.{goes_on, wake_asked}
 use Rattle.psci_control.proofs.control_side.ControlSide.wake.Goals as goal
 
 pub invariant_of-self-2 : goal.invariant_of-self-2

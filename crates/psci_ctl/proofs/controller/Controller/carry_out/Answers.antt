@@ -3,7 +3,7 @@ use Rattle.std.proofs.Common.{◌≤◌, length, ap, sym, subst, arith}
 use Rattle.psci_messages.specs.Message.{MessageValue, most_applied}
 use Rattle.psci_ctl.specs.declared.done.Done.{Done}
 use Rattle.psci_ctl.specs.Seen.{seen}
-use Rattle.psci_ctl.proofs.Applying.{applied_few}
+use Rattle.psci_ctl.proofs.Walked.{applied_few}
 use Rattle.psci_ctl.proofs.controller.Controller.carry_out.Goals as goal
 
 pub returns-in-Down-clause-most : goal.returns-in-Down-clause-most

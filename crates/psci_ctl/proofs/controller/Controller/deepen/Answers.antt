@@ -5,8 +5,8 @@ use Rattle.std.proofs.lemmas.List.{with_items_is}
 use Rattle.psci_board.specs.Board.{height, nodes}
 use Rattle.psci_ctl.specs.declared.level.DomainRow.{DomainRow}
 use Rattle.psci_ctl.specs.Rows.{HasRows, domain_at, values_in}
-use Rattle.psci_ctl.proofs.Kept.{IsDeepened, deepened_kept, is_deepened, whole}
-use Rattle.psci_ctl.proofs.Looked.{set_row, shape_set}
+use Rattle.psci_ctl.proofs.Kept.{deepened_kept, is_deepened, IsDeepened, set_row, shape_set}
+use Rattle.psci_ctl.proofs.Kept.{whole}
 use Rattle.psci_ctl.proofs.controller.Controller.deepen.Goals as goal
 
 -- what was written

@@ -1,8 +1,6 @@
 -- What a delivery leaves is the one reply to it.
 use Rattle.std.proofs.Common.{rules}
-use Rattle.psci_ctl_spec.specs.Replies.{delivery_of, reply}
-use Rattle.psci_ctl_spec.specs.Effects.{effect_of}
-use Rattle.psci_ctl_spec.specs.Changes.{after}
+use Rattle.psci_ctl_spec.specs.Replies.{after, delivery_of, effect_of, reply}
 use Rattle.psci_ctl.proofs.controller.Controller.deliver.Goals as goal
 
 pub returns-in_default : goal.returns-in_default

@@ -92,26 +92,7 @@ invariant_of-self c =
     (c.deref.ensures.value ∙ rows) c.load_domains.ensures.sums))
 
 pub returns-clause-kept : goal.returns-clause-kept
-returns-clause-kept c =
-    let b = c.self.inside.board in
-    let ws = c.args.words.now in
-    let s = is_saved b ws c.in_ok-check.ensures in
-    let rows = with_items_is c.self.inside.cores c.load_cores.new.rows
-    (c.load_cores.auto.rows ∙ c.deref_mut.ensures.len) in
-    rw (
-      rows,
-      with_items_is c.self.inside.domains c.load_domains.new.levels
-          (c.load_domains.auto.levels ∙ c.deref_mut-2.ensures.len),
-    )
-    (loaded_kept b ws c.self.invariant.board s _
-    (c.life_of-self-inside.ensures ∙ ap life_of (life_at b ws s)) _
-    (c.load_cores.ensures ∙ ap (λ ws. map core_of ws)
-    (front_of b ws _ _ s c.cores.ensures.cores c.split_at.ensures.front)) _
-    (c.load_domains.ensures.depths
-    ∙ back_of b ws _ _ s c.cores.ensures.cores c.split_at.ensures.back)
-    c.load_domains.ensures.shape
-    (subst (λ (rs : List CoreRow). HasSums b rs c.load_domains.new.levels)
-    (c.deref.ensures.value ∙ rows) c.load_domains.ensures.sums))
+returns-clause-kept c = invariant_of-self c
 
 pub returns-clause-loaded : goal.returns-clause-loaded
 returns-clause-loaded c =

@@ -1,8 +1,6 @@
 -- What a reset leaves is the one reply to it.
 use Rattle.std.proofs.Common.{rules}
-use Rattle.psci_ctl_spec.specs.Replies.{reply, reset_of}
-use Rattle.psci_ctl_spec.specs.Effects.{effect_of}
-use Rattle.psci_ctl_spec.specs.Changes.{after}
+use Rattle.psci_ctl_spec.specs.Replies.{after, effect_of, reply, reset_of}
 use Rattle.psci_ctl.proofs.controller.Controller.reset.Goals as goal
 
 pub returns-in_default : goal.returns-in_default

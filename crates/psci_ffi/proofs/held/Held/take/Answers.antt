@@ -1,7 +1,7 @@
 -- A frame is read as it is spelled: what is refused is none, and what is read is no other.
 use Rattle.std.proofs.Common.{◌∙◌}
-use Rattle.psci_link.specs.declared.frame.Frame.TheVariants as frames
-use Rattle.psci_ffi.proofs.Taking.{is-taken, not-both, of-same, one-ack}
+use Rattle.psci_link.specs.declared.encoding.Frame.TheVariants as frames
+use Rattle.psci_ffi.proofs.Making.{is-taken, not-both, of-same, one-ack}
 use Rattle.psci_ffi.proofs.held.Held.take.Goals as goal
 
 pub returns-in-Err-clause-message : goal.returns-in-Err-clause-message

@@ -1,6 +1,6 @@
 -- An entry that is refused leaves all, and another one is carried out.
 use Rattle.std.proofs.Common.{rules}
-use Rattle.psci_fw_spec.specs.After.{after}
+use Rattle.psci_fw_spec.specs.Effects.{after}
 use Rattle.psci_fw_spec.specs.Answer.{answer}
 use Rattle.psci_fw.proofs.firmware.Firmware.enter_in_slot.Goals as goal
 

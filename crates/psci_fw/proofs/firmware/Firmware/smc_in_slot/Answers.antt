@@ -3,14 +3,12 @@ use Rattle.std.proofs.Common.{◌≡◌, ◌≤◌, ◌∙◌, None, refl, rules
 use Rattle.psci_abi.specs.Calls.{request_of}
 use Rattle.psci_board.specs.Board.{BoardValue, IsBoard}
 use Rattle.psci_fw_spec.specs.declared.call.FwCall.TheVariants.{Smc}
-use Rattle.psci_fw_spec.specs.Answer.{answer}
-use Rattle.psci_fw_spec.specs.Calls.{call_fault}
+use Rattle.psci_fw_spec.specs.Answer.{answer, call_fault}
 use Rattle.psci_fw_spec.specs.Invariant.{AreValues}
 use Rattle.psci_fw_spec.specs.Values.{Values}
 use Rattle.psci_fw_state.specs.Seen.{StateValue, values_in}
-use Rattle.psci_fw.specs.Reactions.{outcome_in}
-use Rattle.psci_fw.specs.Seen.{IsFirmware, IsFresh}
-use Rattle.psci_fw.proofs.Called.{called}
+use Rattle.psci_fw.specs.Reactions.{IsFirmware, IsFresh, outcome_in}
+use Rattle.psci_fw.proofs.Refused.{called}
 use Rattle.psci_fw.proofs.firmware.Firmware.smc_in_slot.Goals as goal
 
 pub returns-in_err-check_caller-clause-answer : goal.returns-in_err-check_caller-clause-answer

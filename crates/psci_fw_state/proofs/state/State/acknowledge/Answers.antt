@@ -1,12 +1,12 @@
 -- What an acknowledgement that is used leaves, whether it turns its core off or not.
 use Rattle.std.specs.Prelude.{Some}
-use Rattle.psci_fw_state.proofs.Words.{◌<◌, ◌∙◌, ◌≡◌, Acknowledge, AckValue, answered, arith, false}
-use Rattle.psci_fw_state.proofs.Words.{length, message_in, refl, row_at, slot_of, StateValue, subst}
-use Rattle.psci_fw_state.proofs.Words.{sym, taken, the_view, true, turns_off, Used, values_in}
-use Rattle.psci_fw_state.proofs.Acked.{acked_by, acked_changed, answered_used, down_has_slot}
-use Rattle.psci_fw_state.proofs.Acked.{IsAcked, sent_parts}
-use Rattle.psci_fw_state.proofs.Changed.{row_set, updated_same}
-use Rattle.psci_fw_state.proofs.Moved.{rows_set}
+use Rattle.psci_fw_state.proofs.Words.{◌<◌, ◌∙◌, ◌≡◌, Acknowledge, AckValue, answered, arith}
+use Rattle.psci_fw_state.proofs.Words.{false, length, message_in, refl, row_at, slot_of}
+use Rattle.psci_fw_state.proofs.Words.{StateValue, subst, sym, taken, the_view, true, turns_off}
+use Rattle.psci_fw_state.proofs.Words.{Used, values_in}
+use Rattle.psci_fw_state.proofs.Confirming.{acked_by, acked_changed, answered_used}
+use Rattle.psci_fw_state.proofs.Confirming.{down_has_slot, IsAcked, sent_parts}
+use Rattle.psci_fw_state.proofs.Moved.{row_set, rows_set, updated_same}
 use Rattle.psci_fw_state.proofs.state.State.acknowledge.Goals.{After-confirm_parts}
 use Rattle.psci_messages.specs.contracts.ack.Ack.{the_view as the_ack}
 use Rattle.psci_fw_spec.specs.declared.status.Status.TheVariants as statuses

@@ -3,7 +3,7 @@ use Rattle.std.proofs.Common.{ap, ◌∙◌}
 use Rattle.psci_fw_state.specs.Seen.{StateValue}
 use Rattle.psci_fw_state.specs.contracts.state.State.{the_view}
 use Rattle.psci_board.specs.declared.span.CoreSpan.{CoreSpan}
-use Rattle.psci_fw_state.proofs.SoundCores.{all_away, has_span, span_of}
+use Rattle.psci_fw_state.proofs.SavedWords.{all_away, has_span, span_of}
 use Rattle.psci_fw_state.proofs.state.State.are_all_away.Goals as goal
 
 pub returns-in-Some : goal.returns-in-Some

@@ -1,9 +1,8 @@
 -- A core that arrives and stops is away, unless it is pending, and its slots are clear.
 use Rattle.psci_fw_state.proofs.Words.{◌∙◌, ◌≡◌, ap, Clear, length, length-set, None, row_at}
 use Rattle.psci_fw_state.proofs.Words.{StateValue, the_view, TreeValue}
-use Rattle.psci_fw_state.proofs.Changed.{in_rows, row_set}
-use Rattle.psci_fw_state.proofs.Moved.{counts_stay, path_cleared, path_unconfirmed, rows_set}
-use Rattle.psci_fw_state.proofs.Moved.{stopped_changed}
+use Rattle.psci_fw_state.proofs.Moved.{counts_stay, in_rows, path_cleared, path_unconfirmed}
+use Rattle.psci_fw_state.proofs.Moved.{row_set, rows_set, stopped_changed}
 use Rattle.psci_fw_state.proofs.state.State.arrive_away.Goals as goal
 
 pub returns-clause-after : goal.returns-clause-after

@@ -1,7 +1,7 @@
 -- A core that arrives and goes on runs, and its slots are clear.
 use Rattle.psci_fw_state.proofs.Words.{◌<◌, Clear, length, None, StateValue, the_view}
-use Rattle.psci_fw_state.proofs.Changed.{in_rows, row_set, within}
-use Rattle.psci_fw_state.proofs.Moved.{path_cleared, path_unconfirmed, rows_set, running_changed}
+use Rattle.psci_fw_state.proofs.Moved.{in_rows, path_cleared, path_unconfirmed, row_set}
+use Rattle.psci_fw_state.proofs.Moved.{rows_set, running_changed, within}
 use Rattle.psci_fw_spec.specs.declared.status.Status.TheVariants as statuses
 use Rattle.psci_fw_state.proofs.state.State.arrive_running.Goals as goal
 

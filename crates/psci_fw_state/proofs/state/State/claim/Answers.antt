@@ -1,16 +1,15 @@
 -- The Down with the parts is outstanding, and they are granted.
-use Rattle.psci_fw_state.proofs.Words.{◌<◌, ◌∙◌, ◌≡◌, ap, arith, IsOfCores, known_at, length, rules}
-use Rattle.psci_fw_state.proofs.Words.{MessageValue, Put, slot_of, StateValue, the_view}
+use Rattle.psci_fw_state.proofs.Words.{◌<◌, ◌∙◌, ◌≡◌, ap, arith, IsOfCores, known_at, length}
+use Rattle.psci_fw_state.proofs.Words.{MessageValue, Put, rules, slot_of, StateValue, the_view}
 use Rattle.psci_fw_state.proofs.Words.{view_of, wished_claims}
 use Rattle.psci_messages.specs.Slots.{after_change}
 use Rattle.psci_messages.specs.declared.kind.Kind.TheVariants as kinds
 use Rattle.psci_fw_spec.specs.Changes.{with_claims}
-use Rattle.psci_fw_spec.specs.Outcomes.{message_for}
+use Rattle.psci_fw_spec.specs.PowerCalls.{message_for}
 use Rattle.psci_fw_state.specs.Seen.{values_in}
 use Rattle.psci_fw_state.specs.Wishes.{wished_in}
-use Rattle.psci_fw_state.proofs.Changed.{in_rows}
-use Rattle.psci_fw_state.proofs.Moved.{claimed_of}
-use Rattle.psci_fw_state.proofs.Viewed.{viewed}
+use Rattle.psci_fw_state.proofs.Moved.{claimed_of, in_rows}
+use Rattle.psci_fw_state.proofs.KeptCounts.{viewed}
 use Rattle.psci_fw_state.proofs.state.State.claim.Goals.{After-deref_mut}
 use Rattle.psci_fw_state.proofs.state.State.claim.Goals as goal
 

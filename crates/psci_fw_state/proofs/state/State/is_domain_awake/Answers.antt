@@ -1,7 +1,7 @@
 -- The domain on the core's path was granted what is asked of it.
 use Rattle.std.proofs.Common.{◌∙◌}
 use Rattle.psci_fw_state.specs.contracts.state.State.{the_view}
-use Rattle.psci_fw_state.proofs.SoundCores.{depth_here, node_here, node_in}
+use Rattle.psci_fw_state.proofs.SavedWords.{depth_here, node_here, node_in}
 use Rattle.psci_fw_state.proofs.state.State.is_domain_awake.Goals as goal
 
 pub granted-granted-requires : goal.granted-granted-requires

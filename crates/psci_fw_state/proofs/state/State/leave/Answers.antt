@@ -1,6 +1,6 @@
 -- A core that goes off is away.
 use Rattle.psci_fw_state.proofs.Words.{◌<◌, ap, is_pending_phase, length}
-use Rattle.psci_fw_state.proofs.Changed.{away_changed, within}
+use Rattle.psci_fw_state.proofs.Moved.{away_changed, within}
 use Rattle.psci_fw_state.proofs.state.State.leave.Goals as goal
 
 pub returns-clause-after : goal.returns-clause-after

@@ -1,6 +1,6 @@
 -- What is claimed of a core that goes off goes by the mode.
 use Rattle.psci_fw_state.proofs.Words.{◌∙◌, ap, sym, values_in, view}
-use Rattle.psci_fw_spec.specs.Claims.{leaving_claims}
+use Rattle.psci_fw_spec.specs.PowerCalls.{leaving_claims}
 use Rattle.psci_fw_state.proofs.state.State.leaving_wish.Goals as goal
 
 pub returns-in-Platform : goal.returns-in-Platform

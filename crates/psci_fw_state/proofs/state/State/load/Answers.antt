@@ -2,7 +2,7 @@
 use Rattle.std.proofs.Common.{ℕ, List, length, arith, ap, ◌∙◌}
 use Rattle.psci_fw_state.specs.Saved.{part_fault}
 use Rattle.psci_fw_state.specs.Seen.{StateValue}
-use Rattle.psci_fw_state.proofs.SavedLoaded.{behind_heading, is_saved, loaded}
+use Rattle.psci_fw_state.proofs.SavedParts.{behind_heading, is_saved, loaded}
 use Rattle.psci_fw_state.proofs.state.State.load.Goals as goal
 
 pub bounds-words-2 : goal.bounds-words-2

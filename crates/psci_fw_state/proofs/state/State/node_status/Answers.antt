@@ -1,7 +1,7 @@
 -- The status of a core is in its row, and that of a domain by its counts.
 use Rattle.psci_fw_state.proofs.Words.{◌<◌, ◌∙◌, ◌≤◌, ap, arith, cases_lt, CoreRow, counts_at}
 use Rattle.psci_fw_state.proofs.Words.{height, inl, inr, map, nodes, row_at, status_counted}
-use Rattle.psci_fw_state.proofs.NodeStatus.{status_domain, status_leaf, status_none}
+use Rattle.psci_fw_state.proofs.AllCores.{status_domain, status_leaf, status_none}
 use Rattle.psci_fw_state.proofs.state.State.node_status.Goals as goal
 
 pub returns : goal.returns

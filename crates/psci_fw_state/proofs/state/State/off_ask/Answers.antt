@@ -2,7 +2,7 @@
 use Rattle.psci_fw_state.proofs.Words.{◌∙◌, ◌≡◌, ap, own_claims, subst, view_of}
 use Rattle.psci_messages.specs.Claim.{off_claims}
 use Rattle.psci_messages.specs.View.{PowerView}
-use Rattle.psci_fw_state.proofs.Viewed.{viewed}
+use Rattle.psci_fw_state.proofs.KeptCounts.{viewed}
 use Rattle.psci_fw_state.proofs.state.State.off_ask.Goals as goal
 
 pub returns : goal.returns

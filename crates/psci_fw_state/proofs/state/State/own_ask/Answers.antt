@@ -2,7 +2,7 @@
 use Rattle.std.proofs.Common.{◌∙◌}
 use Rattle.psci_fw_state.specs.Seen.{StateValue}
 use Rattle.psci_fw_state.specs.contracts.state.State.{the_view}
-use Rattle.psci_fw_state.proofs.OneCore.{own_asked}
+use Rattle.psci_fw_state.proofs.Sound.{own_asked}
 use Rattle.psci_fw_state.proofs.state.State.own_ask.Goals as goal
 
 pub returns : goal.returns

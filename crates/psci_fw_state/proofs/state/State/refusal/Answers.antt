@@ -1,6 +1,6 @@
 -- The reason to refuse, seen in the tree, is that of the values.
 use Rattle.psci_fw_state.proofs.Words.{◌∙◌, ap, refusal, shallow, view_of}
-use Rattle.psci_fw_state.proofs.Viewed.{viewed}
+use Rattle.psci_fw_state.proofs.KeptCounts.{viewed}
 use Rattle.psci_fw_state.proofs.state.State.refusal.Goals as goal
 
 pub returns : goal.returns

@@ -1,6 +1,6 @@
 -- A core that is not pending is away from then on.
 use Rattle.psci_fw_state.proofs.Words.{◌<◌, ◌∙◌, length, sym}
-use Rattle.psci_fw_state.proofs.Changed.{away_changed, within}
+use Rattle.psci_fw_state.proofs.Moved.{away_changed, within}
 use Rattle.psci_fw_state.proofs.state.State.set_away.Goals as goal
 
 pub returns-then-not-is_pending-clause-after : goal.returns-then-not-is_pending-clause-after

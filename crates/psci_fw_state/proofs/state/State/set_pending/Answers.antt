@@ -1,8 +1,8 @@
 -- A core is pending with its opening, and its Start is outstanding.
-use Rattle.psci_fw_state.proofs.Words.{◌<◌, ◌≡◌, arith, cores, IsOfCores, length, MessageValue, Put}
-use Rattle.psci_fw_state.proofs.Words.{slot_of, Some, StateValue, the_view}
-use Rattle.psci_fw_state.proofs.Changed.{core_set, in_rows, row_set, within}
-use Rattle.psci_fw_state.proofs.Moved.{path_cleared, path_unconfirmed, pending_of, rows_set}
+use Rattle.psci_fw_state.proofs.Words.{◌<◌, ◌≡◌, arith, cores, IsOfCores, length, MessageValue}
+use Rattle.psci_fw_state.proofs.Words.{Put, slot_of, Some, StateValue, the_view}
+use Rattle.psci_fw_state.proofs.Moved.{core_set, in_rows, path_cleared, path_unconfirmed}
+use Rattle.psci_fw_state.proofs.Moved.{pending_of, row_set, rows_set, within}
 use Rattle.psci_messages.specs.contracts.message.Message.{the_view as the_message}
 use Rattle.psci_messages.specs.declared.kind.Kind.TheVariants as kinds
 use Rattle.psci_fw_spec.specs.declared.status.Status.TheVariants as statuses

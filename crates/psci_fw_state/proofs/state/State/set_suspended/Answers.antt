@@ -1,8 +1,8 @@
 -- A suspended core has its ask, and its opening where it powers down.
 use Rattle.psci_fw_state.proofs.Words.{◌<◌, ◌∙◌, ◌≡◌, ap, length, length-set, None, refl, row_at}
 use Rattle.psci_fw_state.proofs.Words.{Some, StateValue, sym, the_view, TreeValue}
-use Rattle.psci_fw_state.proofs.Changed.{in_rows, row_set, updated_same, within}
-use Rattle.psci_fw_state.proofs.Moved.{counts_stay, rows_set, suspended_changed}
+use Rattle.psci_fw_state.proofs.Moved.{counts_stay, in_rows, row_set, rows_set}
+use Rattle.psci_fw_state.proofs.Moved.{suspended_changed, updated_same, within}
 use Rattle.psci_fw_state.proofs.state.State.set_suspended.Goals as goal
 
 pub returns-then-deep-clause-after : goal.returns-then-deep-clause-after

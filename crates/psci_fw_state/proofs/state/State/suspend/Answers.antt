@@ -1,8 +1,8 @@
 -- The parts that a suspended core sends, or why it is refused.
 use Rattle.psci_fw_state.proofs.Words.{◌∙◌, ap, BoardValue, Ok, rules, sym, values_in, view}
 use Rattle.psci_fw_state.proofs.Words.{wished_claims}
-use Rattle.psci_fw_spec.specs.Claims.{suspend_parts}
-use Rattle.psci_fw_state.proofs.Viewed.{suspend_refused, suspend_wished}
+use Rattle.psci_fw_spec.specs.PowerCalls.{suspend_parts}
+use Rattle.psci_fw_state.proofs.KeptCounts.{suspend_refused, suspend_wished}
 use Rattle.psci_fw_state.proofs.state.State.suspend.Goals as goal
 
 pub returns-in-Ok-clause-parts : goal.returns-in-Ok-clause-parts

@@ -2,16 +2,15 @@
 use Rattle.std.specs.Prelude.{◌≡◌, ◌<◌, Bool, false, option_map, true}
 use Rattle.std.proofs.Common.{◌∙◌, ap, refl, subst, sym}
 use Rattle.psci_board.specs.Board.{BoardValue, cores}
-use Rattle.psci_board.specs.declared.node.Core.{Core}
+use Rattle.psci_board.specs.declared.draft.Core.{Core}
 use Rattle.psci_fw_spec.specs.declared.reply.FwReply.TheVariants as replies
 use Rattle.psci_ctl.specs.Seen.{ControllerValue, seen}
-use Rattle.psci_fw.specs.Seen.{seen as seen_firmware}
+use Rattle.psci_fw.specs.Reactions.{seen as seen_firmware}
 use Rattle.psci_fw_spec.specs.declared.call.FwCall.TheVariants as calls
 use Rattle.psci_guest.specs.Pair.{board_of, message_of}
 use Rattle.psci_guest.specs.Turns.{started_by}
-use Rattle.psci_guest.proofs.Guests.{call_free, call_turn, in_present, not_in_present}
-use Rattle.psci_guest.proofs.Keeping.{board_comes, both_come, comes_none, comes_some, given}
-use Rattle.psci_guest.proofs.Keeping.{started_on}
+use Rattle.psci_guest.proofs.Keeping.{board_comes, both_come, call_free, call_turn, comes_none}
+use Rattle.psci_guest.proofs.Keeping.{comes_some, given, in_present, not_in_present, started_on}
 use Rattle.psci_guest.proofs.guest.GuestPower.call.Goals.{in-None, in-Some}
 use Rattle.psci_guest.proofs.guest.GuestPower.call.Goals as goal
 

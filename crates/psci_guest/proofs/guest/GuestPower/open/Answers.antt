@@ -1,8 +1,7 @@
 -- The boot core enters.
 use Rattle.std.proofs.Common.{subst}
 use Rattle.psci_board.specs.Board.{IsBoard}
-use Rattle.psci_guest.proofs.Guests.{boot, opened, opened_by}
-use Rattle.psci_guest.proofs.Keeping.{both_arrive}
+use Rattle.psci_guest.proofs.Keeping.{boot, both_arrive, opened, opened_by}
 use Rattle.psci_guest.proofs.guest.GuestPower.open.Goals as goal
 
 pub returns-clause-after : goal.returns-clause-after

@@ -3,8 +3,7 @@ use Rattle.std.specs.Prelude.{◌<◌}
 use Rattle.std.proofs.Common.{◌∙◌, ap, subst, sym}
 use Rattle.psci_board.specs.Board.{BoardValue, cores}
 use Rattle.psci_guest.specs.Pair.{board_of}
-use Rattle.psci_guest.proofs.Guests.{reset_turn}
-use Rattle.psci_guest.proofs.Keeping.{board_arrives, both_arrive, given}
+use Rattle.psci_guest.proofs.Keeping.{board_arrives, both_arrive, given, reset_turn}
 use Rattle.psci_guest.proofs.guest.GuestPower.reset.Goals as goal
 
 pub arrive-requires : goal.arrive-requires

@@ -4,8 +4,8 @@ use Rattle.psci_world_spec.specs.declared.place.Place.TheVariants.{Running, Stop
 use Rattle.std.proofs.Common.{◌∙◌, ap, subst, sym}
 use Rattle.psci_board.specs.Board.{BoardValue, cores}
 use Rattle.psci_guest.specs.Pair.{board_of}
-use Rattle.psci_guest.proofs.Guests.{at_rest, in_motion, wake_turn}
-use Rattle.psci_guest.proofs.Keeping.{board_arrives, both_arrive, given}
+use Rattle.psci_guest.proofs.Keeping.{at_rest, board_arrives, both_arrive, given, in_motion}
+use Rattle.psci_guest.proofs.Keeping.{wake_turn}
 use Rattle.psci_guest.proofs.guest.GuestPower.wake.Goals as goal
 
 stands : (r t : Bool) → r ≡ true → r ≡ t → t ≡ true

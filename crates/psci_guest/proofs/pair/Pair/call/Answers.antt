@@ -1,8 +1,8 @@
 -- What is sent is for a core of the board.
 use Rattle.std.proofs.Common.{◌∙◌, ap, subst, sym}
 use Rattle.psci_board.specs.Board.{BoardValue}
-use Rattle.psci_ctl_spec.specs.Legal.{IsOfBoard}
-use Rattle.psci_fw.specs.Seen.{seen as seen_firmware}
+use Rattle.psci_ctl_spec.specs.History.{IsOfBoard}
+use Rattle.psci_fw.specs.Reactions.{seen as seen_firmware}
 use Rattle.psci_fw_spec.specs.declared.call.FwCall.TheVariants as calls
 use Rattle.psci_guest.specs.Pair.{message_of}
 use Rattle.psci_guest.proofs.pair.Pair.call.Goals as goal

@@ -1,7 +1,7 @@
 -- What is delivered is of the power controller's board.
 use Rattle.std.proofs.Common.{◌∙◌, ap, option_map, subst, sym}
 use Rattle.psci_board.specs.Board.{BoardValue}
-use Rattle.psci_ctl_spec.specs.Legal.{IsOfBoard}
+use Rattle.psci_ctl_spec.specs.History.{IsOfBoard}
 use Rattle.psci_guest.specs.Pair.{board_of}
 use Rattle.psci_guest.proofs.pair.Pair.deliver.Goals as goal
 

@@ -6,8 +6,7 @@ use Rattle.psci_ctl.specs.psci_ctl_spec.declared.delivery.Delivery.{Delivery}
 use Rattle.psci_ctl.specs.psci_ctl_spec.declared.call.CtlCall.TheVariants as calls
 use Rattle.psci_ctl.specs.psci_ctl_spec.declared.delivery.Delivery.TheVariants as deliveries
 use Rattle.psci_ctl.specs.psci_ctl_spec.declared.reply.CtlReply.TheVariants as replies
-use Rattle.psci_ctl.specs.psci_ctl_spec.Changes.{after}
-use Rattle.psci_ctl.specs.psci_ctl_spec.Replies.{reply}
+use Rattle.psci_ctl.specs.psci_ctl_spec.Replies.{after, reply}
 use Rattle.psci_machine.proofs.Kicks.{delivered_by, delivery_next, reset_life}
 use Rattle.psci_machine.proofs.machine.Machine.carry.Goals as goal
 

@@ -7,8 +7,7 @@ use Rattle.psci_ctl.specs.psci_ctl_spec.declared.call.CtlCall.TheVariants as cal
 use Rattle.psci_ctl.specs.psci_ctl_spec.Replies.{reply}
 use Rattle.psci_fw.specs.psci_messages.Message.{MessageValue}
 use Rattle.psci_world_spec.specs.Legal.{said_by}
-use Rattle.psci_machine.specs.Next.{if_there}
-use Rattle.psci_machine.specs.Seen.{machine_board}
+use Rattle.psci_machine.specs.Seen.{if_there, machine_board}
 use Rattle.psci_machine.proofs.machine.Machine.deliver.Goals as goal
 
 -- the message of this number

@@ -1,8 +1,7 @@
 -- What is said of an event is what is legal.
 use Rattle.std.proofs.Common.{length, ap, sym, ◌∙◌}
 use Rattle.std.proofs.lemmas.List.{length-reverse}
-use Rattle.psci_world_spec.specs.Histories.{acks, sent}
-use Rattle.psci_world_spec.specs.Legal.{legal}
+use Rattle.psci_world_spec.specs.Legal.{acks, legal, sent}
 use Rattle.psci_machine.proofs.Events.{call_legal, deliver_legal, enter_legal, reset_legal}
 use Rattle.psci_machine.proofs.Events.{take_legal, wake_legal}
 use Rattle.psci_machine.proofs.machine.Machine.happen.Goals as goal

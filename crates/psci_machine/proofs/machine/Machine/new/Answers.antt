@@ -1,7 +1,6 @@
 -- A new machine is as before any record.
 use Rattle.std.proofs.Common.{◌<◌, sym, subst, ◌∙◌}
-use Rattle.psci_world_spec.specs.Histories.{controller_history, firmware_history}
-use Rattle.psci_world_spec.specs.Places.{place}
+use Rattle.psci_world_spec.specs.Legal.{controller_history, firmware_history, place}
 use Rattle.psci_machine.proofs.machine.Machine.new.Goals as goal
 
 pub returns-clause-after : goal.returns-clause-after

@@ -1,9 +1,12 @@
 -- After an event it is the present of one record more.
 use Rattle.std.proofs.Common.{◌∙◌}
-use Rattle.psci_fw.specs.psci_fw_spec.Sent.{sent_messages}
+use Rattle.psci_fw.specs.psci_fw_spec.Effects.{sent_messages}
 use Rattle.psci_machine.specs.Seen.{machine_board}
-use Rattle.psci_world_spec.specs.Histories.{firmware_history, sent}
-use Rattle.psci_machine.proofs.Presents.{happens, has_past, sent_of_board}
+use Rattle.psci_world_spec.specs.Legal.{firmware_history, sent}
+use Rattle.psci_machine.proofs.Events.{happens, has_past, sent_of_board}
+use Rattle.psci_headline.proofs.fw_laws.Histories.{legal_holds}
+use Rattle.psci_world_spec.proofs.Answered.{firmware_legal}
+use Rattle.psci_headline.proofs.Sending.{same_sent}
 use Rattle.psci_machine.proofs.present.Present.happen.Goals as goal
 
 pub step-said-requires : goal.step-said-requires
@@ -12,9 +15,9 @@ step-said-requires c =
     let past = c.self.invariant.past in
     let is = c.self.invariant.is in
     sent_of_board b (sent past) (sent_messages b (firmware_history b past)) c.deref.result.now
-    (c.law_sent.ensures b past is.legal)
-    (λ k m e. (c.law_messages.ensures.sent b (firmware_history b past) c.law.ensures.board
-    (c.law_histories.ensures.firmware b past is.legal) k m e).sound)
+    (same_sent b past is.legal)
+    (λ k m e. ((legal_holds b (firmware_history b past) c.law.ensures.board
+    (firmware_legal b past is.legal)).messages k m e).sound)
     (c.deref.ensures.value ∙ c.reserve.ensures.items ∙ is.messages)
 
 pub invariant_of-self-2 : goal.invariant_of-self-2

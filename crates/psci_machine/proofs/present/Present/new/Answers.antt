@@ -1,8 +1,8 @@
 -- A new present is that of no records.
 use Rattle.std.proofs.Common.{[], subst, sym}
 use Rattle.psci_fw.specs.psci_board.Board.{BoardValue}
-use Rattle.psci_machine.specs.Present.{IsPresent, PresentValue}
-use Rattle.psci_machine.proofs.Presents.{first_present}
+use Rattle.psci_machine.specs.Seen.{IsPresent, PresentValue}
+use Rattle.psci_machine.proofs.Events.{first_present}
 use Rattle.psci_machine.proofs.present.Present.new.Goals as goal
 
 pub returns : goal.returns

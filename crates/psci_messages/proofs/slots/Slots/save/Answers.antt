@@ -3,7 +3,7 @@ use Rattle.std.proofs.Common.{List, Option, length, get_or, None, arith, ap, ◌
 use Rattle.psci_messages.specs.Message.{MessageValue}
 use Rattle.psci_messages.specs.Slots.{SlotsValue}
 use Rattle.psci_messages.proofs.SavedSlots.{all_saved}
-use Rattle.psci_messages.proofs.SavedWords.{many_words}
+use Rattle.psci_messages.proofs.SavedLaws.{many_words}
 use Rattle.psci_messages.proofs.slots.Slots.save.Goals as goal
 
 pub save_slot-requires : goal.save_slot-requires

@@ -1,8 +1,9 @@
 -- What was found out of the row that reads a word says what the word is.
 use Rattle.std.proofs.Common.{find}
-use Rattle.psci_platform.proofs.Words.{◌≡◌, Bool, can_ask_by, false, if◌then◌else◌, map}
-use Rattle.psci_platform.proofs.Words.{None, Reading, reading_of, reads, Some, states_of, sym, true}
-use Rattle.psci_platform.proofs.Reading.{no_word, rows_of, states_missed, states_read, word_found}
+use Rattle.psci_platform.proofs.Words.{◌≡◌, Bool, can_ask_by, false, if◌then◌else◌, map, None}
+use Rattle.psci_platform.proofs.Words.{Reading, reading_of, reads, Some, states_of, sym, true}
+use Rattle.psci_platform.proofs.Swapped.{no_word, rows_of, states_missed, states_read}
+use Rattle.psci_platform.proofs.Swapped.{word_found}
 use Rattle.psci_platform.proofs.description.Description.state_by.Goals.{After-deref}
 use Rattle.psci_platform.proofs.description.Description.state_by.Goals as goal
 

@@ -1,10 +1,10 @@
 -- A table in which all are found has the names.
 use Rattle.std.proofs.lemmas.List.{with_items_is}
 use Rattle.std.specs.Vec.{with_items}
-use Rattle.psci_platform.proofs.Words.{◌∙◌, ◌≡◌, ap, AreAmong, DescriptionValue, List, Name, subst}
-use Rattle.psci_platform.proofs.Words.{sym, ℕ}
+use Rattle.psci_platform.proofs.Words.{◌∙◌, ◌≡◌, ap, AreAmong, DescriptionValue, List, Name}
+use Rattle.psci_platform.proofs.Words.{subst, sym, ℕ}
 use Rattle.psci_platform.specs.Names.{are_found}
-use Rattle.psci_platform.proofs.Naming.{each_of}
+use Rattle.psci_platform.proofs.Swaps.{each_of}
 use Rattle.psci_platform.proofs.description.Description.table.Goals as goal
 
 pub returns-in-Some-factor_for : goal.returns-in-Some-factor_for

@@ -1,9 +1,9 @@
 -- What came stands behind what was unread; where reading failed, that stays.
 use Rattle.std.proofs.lemmas.Bool.Decides.{nat_tests}
 use Rattle.std.proofs.Common.{arith}
-use Rattle.psci_script.proofs.Known.{on_err}
-use Rattle.psci_script.proofs.Moved.{moved, refilled, unfilled, some_came, none_came}
-use Rattle.psci_script.proofs.Moved.{waiting_length, counted, not_counted, end_came}
+use Rattle.psci_script.proofs.Finish.{on_err}
+use Rattle.psci_script.proofs.Cutting.{counted, end_came, moved, none_came, not_counted}
+use Rattle.psci_script.proofs.Cutting.{refilled, some_came, unfilled, waiting_length}
 use Rattle.psci_script.proofs.block.Block.refill.Goals as goal
 
 pub returns-clause-bytes : goal.returns-clause-bytes

@@ -2,7 +2,7 @@
 use Rattle.std.proofs.Common.{rules, map, ap, arith}
 use Rattle.psci_status.specs.Lists.{newest}
 use Rattle.psci_status.specs.Seats.{written}
-use Rattle.psci_shared.specs.Books.{BookView}
+use Rattle.psci_shared.specs.Passes.{BookView}
 use Rattle.psci_shared.proofs.Written.{few_written, written_on}
 use Rattle.psci_shared.proofs.locked.FwLocked.call_of.Goals as goal
 

@@ -2,8 +2,7 @@
 use Rattle.std.proofs.Common.{◌≡◌, List, length, sym, subst, arith}
 use Rattle.psci_fw.specs.psci_fw_spec.declared.status.Status.{Status}
 use Rattle.psci_status.specs.Seats.{written}
-use Rattle.psci_shared.specs.Gathers.{AllSeen, AllStand}
-use Rattle.psci_shared.specs.Passes.{PassView}
+use Rattle.psci_shared.specs.Passes.{AllSeen, AllStand, PassView}
 use Rattle.psci_shared.proofs.Written.{all_stands, taken}
 use Rattle.psci_shared.proofs.locked.FwLocked.meet.Goals as goal
 

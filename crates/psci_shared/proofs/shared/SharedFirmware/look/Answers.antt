@@ -1,8 +1,8 @@
 -- What is seen under the lock is a legal history.
 use Rattle.std.proofs.Common.{refl, sym, subst, List}
 use Rattle.psci_fw.specs.psci_fw_spec.Legal.{IsLegal}
-use Rattle.psci_shared.specs.Entries.{FwEntry}
-use Rattle.psci_shared.specs.Books.{history_of}
+use Rattle.psci_shared.specs.Places.{FwEntry}
+use Rattle.psci_shared.specs.Passes.{history_of}
 use Rattle.psci_shared.proofs.shared.SharedFirmware.look.Goals as goal
 
 pub returns : goal.returns

@@ -1,10 +1,9 @@
 -- As many came as were made: they have all parts of the ledger, and so all that is counted in it.
 use Rattle.std.proofs.Common.{rules, arith, length, subst, ◌≡◌, ◌+◌, ◌*◌, ◌^◌, ◌<◌, ◌≤◌}
-use Rattle.psci_shared.specs.Agree.{Agree}
-use Rattle.psci_shared.specs.Gathers.{items_of}
-use Rattle.psci_shared.specs.Told.{told_of}
+use Rattle.psci_shared.specs.Places.{Agree, told_of}
+use Rattle.psci_shared.specs.Passes.{items_of}
 use Rattle.psci_shared.proofs.Placed.{all_placed}
-use Rattle.psci_shared.proofs.Telling.{as_many}
+use Rattle.psci_shared.proofs.Written.{as_many}
 use Rattle.psci_shared.proofs.tally.Tally.cause.Given as given
 use Rattle.psci_shared.proofs.tally.Tally.cause.Goals as goal
 

@@ -1,7 +1,7 @@
 -- What was read is the ask of the word, so it gives the word back.
 use Rattle.std.proofs.Common.{sym, arith}
 use Rattle.std.proofs.lemmas.Grind.{common_steps}
-use Rattle.psci_state.proofs.Back.{word_back}
+use Rattle.psci_state.proofs.Words.{word_back}
 use Rattle.psci_state.proofs.ask.Ask.read.Goals as goal
 
 pub returns-then-fields-from-clause-value : goal.returns-then-fields-from-clause-value

@@ -3,10 +3,10 @@ use Rattle.std.proofs.Common.{Some}
 use Rattle.psci_status.proofs.Past.{names_enter}
 use Rattle.psci_status.proofs.CallSteps.{next_left, next_still, others_stay, polled_next}
 use Rattle.psci_status.proofs.Told.{enter_known}
-use Rattle.psci_fw.specs.Reactions.{outcome_in}
-use Rattle.psci_fw.specs.Seen.{seen}
+use Rattle.psci_fw.specs.Reactions.{outcome_in, seen}
 use Rattle.psci_fw_spec.specs.declared.call.FwCall.TheVariants as calls
 use Rattle.psci_fw_spec.specs.declared.reply.FwReply.TheVariants as replies
+use Rattle.psci_fw_spec.proofs.Changing.{enters_life}
 use Rattle.psci_status.proofs.polled.PolledFirmware.enter_in_slot.Goals as goal
 
 pub returns-in_err-reaction-clause-next : goal.returns-in_err-reaction-clause-next
@@ -19,7 +19,7 @@ pub write_entered-requires-clause-entered : goal.write_entered-requires-clause-e
 write_entered-requires-clause-entered g c =
     let left = c.in_ok-reaction.ensures in
     enter_known c.enter_in_slot.new.self c.self.invariant c.args.core.number c.args.start
-    left.answer (rw left.after (c.law_enters.ensures.life _ _ c.args.core.number c.args.start _))
+    left.answer (rw left.after (enters_life _ _ c.args.core.number c.args.start _))
 
 pub write_entered-requires-clause-others : goal.write_entered-requires-clause-others
 write_entered-requires-clause-others g c =

@@ -1,7 +1,7 @@
 -- After an acknowledgement its core's word has the status.
 use Rattle.std.proofs.Common.{◌≡◌, false, refl, ap, subst}
 use Rattle.psci_messages.specs.Message.{AckValue}
-use Rattle.psci_status.specs.Naming.{is_named, used_by}
+use Rattle.psci_status.specs.Lists.{is_named, used_by}
 use Rattle.psci_status.proofs.Past.{names_taken}
 use Rattle.psci_status.proofs.CallSteps.{life_taken, others_stay, polled_next, next_left}
 use Rattle.psci_status.proofs.Told.{take_known}

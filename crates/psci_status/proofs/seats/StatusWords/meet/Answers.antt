@@ -2,7 +2,7 @@
 use Rattle.std.proofs.Common.{ℕ, ◌<◌, List, sym, ap, ◌∙◌, subst}
 use Rattle.atomic_table.specs.Seated.{TableId}
 use Rattle.psci_status.specs.Lists.{Item, row, Within, IsLast}
-use Rattle.psci_status.proofs.Lists.{met_within, met_last}
+use Rattle.psci_status.proofs.Steps.{met_within, met_last}
 use Rattle.psci_status.proofs.seats.StatusWords.meet.Goals as goal
 
 pub returns-clause-stand : goal.returns-clause-stand

@@ -2,8 +2,7 @@
 use Rattle.std.proofs.Common.{◌≡◌, length, sym, ap, ◌∙◌, arith}
 use Rattle.atomic_table.specs.Table.{Me}
 use Rattle.psci_status.specs.declared.rule.View.{View}
-use Rattle.psci_status.proofs.Lists.{length-informed_seen}
-use Rattle.psci_status.proofs.Steps.{informs, looks, notes}
+use Rattle.psci_status.proofs.Steps.{informs, length-informed_seen, looks, notes}
 use Rattle.psci_status.proofs.seats.StatusWords.trade.Goals as goal
 
 pub split_seat-note-requires : goal.split_seat-note-requires

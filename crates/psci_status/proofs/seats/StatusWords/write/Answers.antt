@@ -1,8 +1,7 @@
 -- One status more is written, with the next number.
 use Rattle.std.proofs.Common.{◌<◌, refl, arith}
 use Rattle.psci_status.specs.Lists.{row}
-use Rattle.psci_status.proofs.Lists.{word_length, next_word}
-use Rattle.psci_status.proofs.Steps.{stores}
+use Rattle.psci_status.proofs.Steps.{next_word, stores, word_length}
 use Rattle.psci_status.proofs.seats.StatusWords.write.Goals as goal
 
 pub store-requires : goal.store-requires

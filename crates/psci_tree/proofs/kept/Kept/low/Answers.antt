@@ -1,7 +1,7 @@
 -- The least depth that is asked has the first count above 0.
-use Rattle.psci_tree.proofs.Words.{◌≡◌, ap, arith, asking_in, CoreState, get_or, Keeps, Kept, List}
-use Rattle.psci_tree.proofs.Words.{ℕ}
-use Rattle.psci_tree.proofs.Lows.{low_one, low_three, low_two, low_zero}
+use Rattle.psci_tree.proofs.Words.{◌≡◌, ap, arith, asking_in, CoreState, get_or, Keeps, Kept}
+use Rattle.psci_tree.proofs.Words.{List, ℕ}
+use Rattle.psci_tree.proofs.Ranges.{low_one, low_three, low_two, low_zero}
 use Rattle.psci_tree.proofs.kept.Kept.low.Goals as goal
 
 first : (level : ℕ) (k : Kept) (cs : List CoreState) → Keeps level k cs

@@ -1,6 +1,6 @@
 -- A core alone is counted at the depth that it asks.
 use Rattle.psci_tree.proofs.Words.{◌∙◌, ◌∷◌, [], ap, arith, rules, set}
-use Rattle.psci_tree.proofs.Lows.{one_asks}
+use Rattle.psci_tree.proofs.Ranges.{one_asks}
 use Rattle.psci_tree.proofs.kept.Kept.of_core.Goals as goal
 
 pub returns : goal.returns

@@ -1,6 +1,6 @@
 -- The number is kept.
 use Rattle.psci_tree.proofs.Words.{◌∙◌, ap, Kept, refl}
-use Rattle.psci_tree.proofs.PathStands.{active_is}
+use Rattle.psci_tree.proofs.Gone.{active_is}
 use Rattle.psci_tree.proofs.tree.Tree.active.Goals as goal
 
 pub returns : goal.returns

@@ -1,5 +1,5 @@
 -- A tree whose parts say that every core is off is one.
-use Rattle.psci_tree.proofs.Valid.{all_off_valid}
+use Rattle.psci_tree.proofs.Granted.{all_off_valid}
 use Rattle.psci_tree.proofs.tree.Tree.all_off.Goals as goal
 
 pub invariant_of-tree : goal.invariant_of-tree

@@ -1,7 +1,6 @@
 -- Where nothing is granted to the core, its path is clear; else it is cleared.
 use Rattle.psci_tree.proofs.Words.{◌∙◌, arith, refl, sym}
-use Rattle.psci_tree.proofs.Granted.{none_to_clear}
-use Rattle.psci_tree.proofs.Valid.{path_valid}
+use Rattle.psci_tree.proofs.Granted.{none_to_clear, path_valid}
 use Rattle.psci_tree.proofs.Seen.{core_seen, way_seen, held_with, held_seen, rows_seen}
 use Rattle.psci_tree.proofs.tree.Tree.clear_path.Goals as goal
 

@@ -1,10 +1,10 @@
 -- What was granted to one domain is confirmed, and the rest stays.
 use Rattle.std.proofs.lemmas.List.{set-get_or}
-use Rattle.psci_tree.proofs.Words.{◌∙◌, ◌≡◌, [], ap, arith, depth_set, Depths, get_or, granted_at}
-use Rattle.psci_tree.proofs.Words.{List, Node, refl, set, TreeValue, ℕ}
+use Rattle.psci_tree.proofs.Words.{◌∙◌, ◌≡◌, [], ap, arith, depth_set, Depths, get_or}
+use Rattle.psci_tree.proofs.Words.{granted_at, List, Node, refl, set, TreeValue, ℕ}
 use Rattle.psci_tree.specs.Changes.{with_confirmed}
 use Rattle.psci_tree.proofs.Seen.{depths_seen, depths_with, held_seen, held_with}
-use Rattle.psci_tree.proofs.Valid.{confirmed_valid}
+use Rattle.psci_tree.proofs.Granted.{confirmed_valid}
 use Rattle.psci_tree.proofs.tree.Tree.confirm.Goals as goal
 
 -- a depth written where it was

@@ -3,7 +3,7 @@ use Rattle.psci_tree.proofs.Words.{◌==◌, ◌∙◌, ap, arith, cond, Depths,
 use Rattle.psci_tree.proofs.Words.{TreeValue, ℕ}
 use Rattle.psci_tree.specs.Changes.{with_grant}
 use Rattle.psci_tree.proofs.Seen.{depths_seen, depths_with, held_seen, held_with, place_seen}
-use Rattle.psci_tree.proofs.Valid.{grant_valid}
+use Rattle.psci_tree.proofs.Granted.{grant_valid}
 use Rattle.psci_tree.proofs.tree.Tree.grant.Goals as goal
 
 pub depths_at-requires-clause-level : goal.depths_at-requires-clause-level

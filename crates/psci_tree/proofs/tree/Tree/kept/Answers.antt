@@ -1,10 +1,8 @@
 -- What is kept of a node is kept of the cores that the tree has below it.
-use Rattle.psci_tree.proofs.Words.{◌∙◌, ◌∷◌, ◌≡◌, [], ap, CoreState, get_or, Keeps, kept_at, List}
-use Rattle.psci_tree.proofs.Words.{map}
-use Rattle.psci_tree.proofs.Words.{Node, SpanLaws, subst, TreeValue}
-use Rattle.psci_tree.proofs.Children.{node_keeps}
-use Rattle.psci_tree.proofs.Seen.{held_seen, kept_in}
-use Rattle.psci_tree.proofs.Slices.{states_slice}
+use Rattle.psci_tree.proofs.Words.{◌∙◌, ◌∷◌, ◌≡◌, [], ap, CoreState, get_or, Keeps, kept_at}
+use Rattle.psci_tree.proofs.Words.{List, map, Node, SpanLaws, subst, TreeValue}
+use Rattle.psci_tree.proofs.Changed.{node_keeps}
+use Rattle.psci_tree.proofs.Seen.{held_seen, kept_in, states_slice}
 use Rattle.psci_tree.proofs.tree.Tree.kept.Goals as goal
 
 pub returns : goal.returns

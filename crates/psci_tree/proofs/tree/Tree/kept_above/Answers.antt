@@ -1,7 +1,6 @@
 -- What is kept of a domain is kept of the cores that the tree has below it.
 use Rattle.psci_tree.proofs.Words.{◌∙◌, ap, kept_at, map, Node, SpanLaws, TreeValue}
-use Rattle.psci_tree.proofs.Seen.{held_seen}
-use Rattle.psci_tree.proofs.Slices.{states_slice}
+use Rattle.psci_tree.proofs.Seen.{held_seen, states_slice}
 use Rattle.psci_tree.proofs.tree.Tree.kept_above.Goals as goal
 
 pub returns : goal.returns

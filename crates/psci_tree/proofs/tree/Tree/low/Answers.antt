@@ -1,9 +1,8 @@
 -- The least ask is kept in the domain; above the board nothing is asked.
 use Rattle.std.proofs.lemmas.List.FromFn.{length-range_with_len}
 use Rattle.psci_tree.proofs.Words.{◌<◌, ◌∙◌, ap, arith, below_in, length, low_in, refl, span}
-use Rattle.psci_tree.proofs.Words.{SpanLaws}
-use Rattle.psci_tree.proofs.Words.{sym, TreeValue}
-use Rattle.psci_tree.proofs.PathStands.{low_above, low_is, states}
+use Rattle.psci_tree.proofs.Words.{SpanLaws, sym, TreeValue}
+use Rattle.psci_tree.proofs.Gone.{low_above, low_is, states}
 use Rattle.psci_tree.proofs.Seen.{held_seen}
 use Rattle.psci_tree.proofs.tree.Tree.low.Goals as goal
 

@@ -1,6 +1,6 @@
 -- The number is kept.
 use Rattle.psci_tree.proofs.Words.{◌∙◌, ap, Kept, refl}
-use Rattle.psci_tree.proofs.PathStands.{off_is}
+use Rattle.psci_tree.proofs.Gone.{off_is}
 use Rattle.psci_tree.proofs.tree.Tree.off.Goals as goal
 
 pub returns : goal.returns

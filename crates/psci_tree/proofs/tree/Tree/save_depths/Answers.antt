@@ -7,8 +7,8 @@ use Rattle.psci_tree.proofs.SavedRows.{flat}
 use Rattle.psci_tree.proofs.SavedTrees.{all_saved, is_flat}
 use Rattle.psci_tree.proofs.tree.Tree.save_depths.Goals as goal
 
-pub save_granted-requires : goal.save_granted-requires
-save_granted-requires c =
+pub save_rows-requires : goal.save_rows-requires
+save_rows-requires c =
     let t : TreeValue = c.args.self.now in
     let valid : IsDomainTree t =
     (held_seen c.self.inside t c.self.invariant c.self.view_is).tied.valid in
@@ -22,8 +22,8 @@ save_granted-requires c =
       (is_flat t valid).granted,
     )
 
-pub save_confirmed-requires : goal.save_confirmed-requires
-save_confirmed-requires c =
+pub save_rows-requires-2 : goal.save_rows-requires-2
+save_rows-requires-2 c =
     let t : TreeValue = c.args.self.now in
     let valid : IsDomainTree t =
     (held_seen c.self.inside t c.self.invariant c.self.view_is).tied.valid in
@@ -36,7 +36,7 @@ save_confirmed-requires c =
       c.domain_count.ensures.count,
       ap (λ rows. length (flat rows)) same,
       (is_flat t valid).confirmed,
-      c.save_granted.auto.words,
+      c.save_rows.auto.words,
     )
 
 pub returns : goal.returns
@@ -44,10 +44,10 @@ returns c =
     let t : TreeValue = c.args.self.now in
     all_saved t (granted_of (map (λ v. v.items) c.deref.result.now))
     (confirmed_of (map (λ v. v.items) c.deref-2.result.now)) c.args.start c.domain_count.result
-    c.args.words.now c.save_granted.new.words c.save_confirmed.new.words
+    c.args.words.now c.save_rows.new.words c.save_rows-2.new.words
     (held_seen c.self.inside t c.self.invariant c.self.view_is).tied.valid
     (ap (λ vs. granted_of (map (λ v. v.items) vs)) c.deref.ensures.value
     ∙ ap (λ (u : TreeValue). u.granted) c.self.view_is)
     (ap (λ vs. confirmed_of (map (λ v. v.items) vs)) c.deref-2.ensures.value
     ∙ ap (λ (u : TreeValue). u.confirmed) c.self.view_is) c.domain_count.ensures.count
-    c.save_granted.ensures c.save_confirmed.ensures
+    c.save_rows.ensures c.save_rows-2.ensures

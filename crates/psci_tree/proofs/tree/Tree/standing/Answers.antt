@@ -1,9 +1,8 @@
 -- What is kept of the domain of the level on the core's path is how it stands.
-use Rattle.psci_tree.proofs.Words.{◌<◌, ◌∙◌, ◌≡◌, ◌≤◌, ap, HasNodeIn, inside}
-use Rattle.psci_tree.proofs.Words.{IsDomainTree, Keeps, Kept, known, length, low, low_in, Node}
-use Rattle.psci_tree.proofs.Words.{on_path}
-use Rattle.psci_tree.proofs.Words.{refl, size_below, subst, sym, TreeValue, ℕ}
-use Rattle.psci_tree.proofs.PathStands.{known_is, low_is, states}
+use Rattle.psci_tree.proofs.Words.{◌<◌, ◌∙◌, ◌≡◌, ◌≤◌, ap, HasNodeIn, inside, IsDomainTree}
+use Rattle.psci_tree.proofs.Words.{Keeps, Kept, known, length, low, low_in, Node, on_path, refl}
+use Rattle.psci_tree.proofs.Words.{size_below, subst, sym, TreeValue, ℕ}
+use Rattle.psci_tree.proofs.Gone.{known_is, low_is, states}
 use Rattle.psci_tree.proofs.Seen.{held_seen}
 use Rattle.psci_tree.proofs.tree.Tree.standing.Goals as goal
 

@@ -1,10 +1,9 @@
 -- The states of the cores below a node are a slice of those of all cores.
 use Rattle.std.proofs.lemmas.Option.{cond_some}
 use Rattle.psci_board.specs.declared.span.CoreSpan.{CoreSpan}
-use Rattle.psci_tree.proofs.Words.{◌+◌, ◌-◌, ◌∙◌, ◌≡◌, ap, arith, drop, Node, span, SpanLaws, sym}
-use Rattle.psci_tree.proofs.Words.{take, TreeValue, ℕ}
-use Rattle.psci_tree.proofs.Seen.{held_seen}
-use Rattle.psci_tree.proofs.Slices.{states_slice}
+use Rattle.psci_tree.proofs.Words.{◌+◌, ◌-◌, ◌∙◌, ◌≡◌, ap, arith, drop, Node, span, SpanLaws}
+use Rattle.psci_tree.proofs.Words.{sym, take, TreeValue, ℕ}
+use Rattle.psci_tree.proofs.Seen.{held_seen, states_slice}
 use Rattle.psci_tree.proofs.tree.Tree.states.Goals as goal
 
 pub returns-in-Some : goal.returns-in-Some

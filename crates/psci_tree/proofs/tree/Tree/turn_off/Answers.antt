@@ -1,12 +1,10 @@
 -- Every core is off, and every domain is granted power-down, which is confirmed.
 use Rattle.psci_tree.proofs.Words.{◌∙◌, ◌≡◌, ap, AreKept, arith, Depths, IsHeld, Kept, length}
-use Rattle.psci_tree.proofs.Words.{level_sizes}
-use Rattle.psci_tree.proofs.Words.{List, map, never_started, replicate, size_below, subst, sym}
-use Rattle.psci_tree.proofs.Words.{TreeValue}
-use Rattle.psci_tree.proofs.Words.{with_items, with_items_is, ℕ}
+use Rattle.psci_tree.proofs.Words.{level_sizes, List, map, never_started, replicate, size_below}
+use Rattle.psci_tree.proofs.Words.{subst, sym, TreeValue, with_items, with_items_is, ℕ}
 use Rattle.psci_tree.proofs.DepthRows.{depth_lengths, filled_depths}
 use Rattle.psci_tree.proofs.Gone.{turned_off}
-use Rattle.psci_tree.proofs.Valid.{all_off_valid}
+use Rattle.psci_tree.proofs.Granted.{all_off_valid}
 use Rattle.psci_tree.proofs.Seen.{held_seen, kept_in}
 use Rattle.psci_tree.proofs.tree.Tree.turn_off.Goals as goal
 

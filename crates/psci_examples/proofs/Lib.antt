@@ -1,4 +1,0 @@
-mod Apart
-mod AuditRows
-mod OwnCallRows
-mod ReplayRows

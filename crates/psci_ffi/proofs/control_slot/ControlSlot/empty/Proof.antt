@@ -1,9 +1,0 @@
--- An empty slot owns nothing.
-use Rattle.psci_ffi.specs.contracts.control_slot.ControlSlot.empty.Key.{name as #self}
-use Rattle.psci_ffi.proofs.SlotEmpty.{met}
-use Rattle.psci_ffi.proofs.ControlForm.{control}
-use Rattle.psci_ffi.proofs.control_slot.ControlSlot.empty.Statement.{statement}
-use Rattle.psci_ffi.proofs.control_slot.ControlSlot.empty.Code.{unfolded}
-
-pub empty_spec : {M : Type 1} → statement M
-empty_spec 𝓤 𝓛 𝓜 𝓡 wired = met control 𝓛 𝓜 𝓡 #self (unfolded 𝓤 𝓛.H 𝓜 𝓡 wired)

@@ -1,9 +1,0 @@
--- `side` lends what is in the slot, and the slot follows it.
-use Rattle.psci_ffi.specs.contracts.control_slot.ControlSlot.side.Key.{name as #self}
-use Rattle.psci_ffi.proofs.SlotLends.{met}
-use Rattle.psci_ffi.proofs.ControlForm.{control}
-use Rattle.psci_ffi.proofs.control_slot.ControlSlot.side.Statement.{statement}
-use Rattle.psci_ffi.proofs.control_slot.ControlSlot.side.Code.{unfolded}
-
-pub side_spec : {M : Type 1} → statement M
-side_spec 𝓤 𝓛 𝓜 𝓡 wired = met control 𝓛 𝓜 𝓡 #self (unfolded 𝓤 𝓛.H 𝓜 𝓡 wired)

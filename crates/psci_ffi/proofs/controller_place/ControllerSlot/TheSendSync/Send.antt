@@ -1,0 +1,8 @@
+-- A slot may go to another thread, since its value may.
+use denote.Param.Send.{IsSend}
+use Rattle.psci_ffi.specs.contracts.controller_place.ControllerSlot.{the_row}
+use Rattle.psci_ffi.proofs.Crossing as crossing
+use Rattle.psci_ffi.proofs.SlotEmpty.{controller}
+
+pub send : IsSend the_row
+send = crossing.crosses controller crossing.controller

@@ -1,8 +1,0 @@
--- A slot may go to another thread, since its value may.
-use denote.Param.Send.{IsSend}
-use Rattle.psci_ffi.specs.contracts.controller_slot.ControllerSlot.{the_row}
-use Rattle.psci_ffi.proofs.Crossing as crossing
-use Rattle.psci_ffi.proofs.SlotForms.{controller}
-
-pub send : IsSend the_row
-send = crossing.crosses controller crossing.controller

@@ -1,9 +1,0 @@
--- `controller` lends what is in the slot, and the slot follows it.
-use Rattle.psci_ffi.specs.contracts.controller_slot.ControllerSlot.controller.Key.{name as #self}
-use Rattle.psci_ffi.proofs.SlotLends.{met}
-use Rattle.psci_ffi.proofs.SlotForms.{controller}
-use Rattle.psci_ffi.proofs.controller_slot.ControllerSlot.controller.Statement.{statement}
-use Rattle.psci_ffi.proofs.controller_slot.ControllerSlot.controller.Code.{unfolded}
-
-pub controller_spec : {M : Type 1} → statement M
-controller_spec 𝓤 𝓛 𝓜 𝓡 wired = met controller 𝓛 𝓜 𝓡 #self (unfolded 𝓤 𝓛.H 𝓜 𝓡 wired)

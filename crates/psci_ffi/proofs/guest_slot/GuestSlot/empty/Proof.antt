@@ -1,9 +1,0 @@
--- An empty slot owns nothing.
-use Rattle.psci_ffi.specs.contracts.guest_slot.GuestSlot.empty.Key.{name as #self}
-use Rattle.psci_ffi.proofs.SlotEmpty.{met}
-use Rattle.psci_ffi.proofs.SlotForms.{guest}
-use Rattle.psci_ffi.proofs.guest_slot.GuestSlot.empty.Statement.{statement}
-use Rattle.psci_ffi.proofs.guest_slot.GuestSlot.empty.Code.{unfolded}
-
-pub empty_spec : {M : Type 1} → statement M
-empty_spec 𝓤 𝓛 𝓜 𝓡 wired = met guest 𝓛 𝓜 𝓡 #self (unfolded 𝓤 𝓛.H 𝓜 𝓡 wired)

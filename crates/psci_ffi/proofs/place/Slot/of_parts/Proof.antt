@@ -1,0 +1,9 @@
+-- The fields move, and what they own goes with them.
+use Rattle.psci_ffi.specs.contracts.place.Slot.of_parts.Key.{name as #self}
+use Rattle.psci_ffi.proofs.SlotMoves.{of_met}
+use Rattle.psci_ffi.proofs.SlotEmpty.{firmware}
+use Rattle.psci_ffi.proofs.place.Slot.of_parts.Statement.{statement}
+use Rattle.psci_ffi.proofs.place.Slot.of_parts.Code.{unfolded}
+
+pub of_parts_spec : {M : Type 1} → statement M
+of_parts_spec 𝓤 𝓛 𝓜 𝓡 wired = of_met firmware 𝓛 𝓜 𝓡 #self (unfolded 𝓤 𝓛.H 𝓜 𝓡 wired)

@@ -1,8 +1,0 @@
--- A slot may go to another thread, since its value may.
-use denote.Param.Send.{IsSend}
-use Rattle.psci_ffi.specs.contracts.poller_slot.PollerSlot.{the_row}
-use Rattle.psci_ffi.proofs.Crossing as crossing
-use Rattle.psci_ffi.proofs.SlotForms.{poller}
-
-pub send : IsSend the_row
-send = crossing.crosses poller crossing.watch

@@ -1,9 +1,0 @@
--- The fields move, and what they own goes with them.
-use Rattle.psci_ffi.specs.contracts.poller_slot.PollerSlot.into_parts.Key.{name as #self}
-use Rattle.psci_ffi.proofs.SlotMoves.{into_met}
-use Rattle.psci_ffi.proofs.SlotForms.{poller}
-use Rattle.psci_ffi.proofs.poller_slot.PollerSlot.into_parts.Statement.{statement}
-use Rattle.psci_ffi.proofs.poller_slot.PollerSlot.into_parts.Code.{unfolded}
-
-pub into_parts_spec : {M : Type 1} → statement M
-into_parts_spec 𝓤 𝓛 𝓜 𝓡 wired = into_met poller 𝓛 𝓜 𝓡 #self (unfolded 𝓤 𝓛.H 𝓜 𝓡 wired)
