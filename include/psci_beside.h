@@ -22,7 +22,7 @@ enum {
     PSCI_BESIDE_WAITS = 6,   /* from now on a wake-up waits for a core that runs */
     PSCI_BESIDE_LACKS = 7,   /* the peer's next request for memory is refused */
 };
-#define PSCI_BESIDE_EVENTS 512
+#define PSCI_BESIDE_EVENTS 4096
 
 struct psci_beside_event {
     uint32_t kind;
@@ -97,17 +97,17 @@ struct psci_beside_profile {
     struct psci_beside_state states[PSCI_BESIDE_MOST];
 };
 
-/* A difference. `key` is its group: function, mode, cause, and what both did, with the states that were told;
- * where these hang on it, also how awake the cores are beside the caller. The cause is what is left of the call
- * once all is taken out of it that doesn't matter; a side that would have answered a call without its one odd
- * argument alike is said to do "as without it". */
+/* A difference. `cause` is its group: what in the list, or in the call, both would do the same without. `key` is how
+ * it shows: function, mode, what is odd in the call once all is taken out of it that doesn't matter, and what both did;
+ * a side that would have answered without that alike is said to do "as without it". */
 struct psci_beside_difference {
     struct psci_beside_event event;
     const char *function; /* the name of the function that was called; null of another event or function */
     struct psci_beside_did ours, theirs;
-    char key[200];
+    char cause[200], key[200];
     const char *clause; /* the definition that our answer follows from, in crates/psci_fw_spec/specs */
     bool is_undone;     /* neither side did it, and the list goes on */
+    bool is_lost;       /* but here, since the core was off before */
 };
 
 /* What a list has come to: what is kept beside the library, and put back where a call is undone. */
@@ -135,6 +135,9 @@ struct psci_beside {
     struct psci_beside_event at; /* the event that the peer is at, what ours did of it, and why a core enters */
     struct psci_beside_did ours;
     uint32_t why;
+    bool is_trying; /* the list that came to a difference, and what of it is played once more */
+    uint32_t many;
+    struct psci_beside_event was[PSCI_BESIDE_EVENTS], tried[PSCI_BESIDE_EVENTS];
 };
 
 /* How many bytes it takes for a board of so many cores, and the opening, over memory that is aligned to

@@ -22,7 +22,7 @@ struct psci_guest_place {
 struct psci_guest_turn {
     uint32_t what;               /* PSCI_GUEST_TURNED, or a refusal: then nothing changed, and all else is 0 */
     uint32_t life;               /* after it, from 1; 0 once the system is off */
-    struct psci_answer caller;   /* of a call: what the caller does next, PSCI_RETURN or PSCI_STOP; else 0 */
+    struct psci_answer caller;   /* of a call: PSCI_RETURN or PSCI_STOP, with its message, which was delivered; else 0 */
     struct psci_ctl_start start; /* the core that entered, and by which start; number 0 where none did */
     struct psci_answer entry;    /* what it does next: PSCI_ENTER, PSCI_RESUME, or PSCI_STOP where it parks; else 0 */
     struct psci_stop stop;       /* of a caller that stops; else 0 */

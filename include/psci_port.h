@@ -31,7 +31,7 @@ enum psci_port_post {
 
 /* How a core stands. */
 enum psci_port_stop {
-    PSCI_PORT_OFF = 0,       /* it waits for a start, and no interrupt wakes it */
+    PSCI_PORT_OFF = 0,       /* no interrupt wakes it: it waits for a start, or for the end of a life that others end */
     PSCI_PORT_SUSPENDED = 1, /* a wake-up of its own may start it */
     PSCI_PORT_ENDING = 2,    /* the life ends */
 };
@@ -138,7 +138,12 @@ enum psci_control_what {
 };
 
 /* How a life ends. */
-enum psci_control_end { PSCI_CONTROL_GOES_ON = 0, PSCI_CONTROL_OFF = 1, PSCI_CONTROL_RESTART = 2 };
+enum psci_control_end {
+    PSCI_CONTROL_GOES_ON = 0,
+    PSCI_CONTROL_OFF = 1,     /* every core stops, and the system goes off */
+    PSCI_CONTROL_RESTART = 2, /* every core stops; each domain on the boot core's path has its power, the others go down.
+                               * Then the boot core's door is due */
+};
 
 /* What a call orders, to be done in the order of these fields: power is switched before anything is acknowledged. */
 struct psci_control_orders {
@@ -182,7 +187,7 @@ void psci_control_waited(struct psci_control_place *, uint16_t core, struct psci
 /* A core has said that it stands in its stop of this start: 0, or a refusal. */
 uint32_t psci_control_stands(struct psci_control_place *, uint16_t core, uint32_t word);
 
-/* A core has a wake-up. It waits where the core does not stand. */
+/* A core has a wake-up. Where it does not stand, PSCI_CONTROL_WAITS: not kept, it is said again once it stands. */
 void psci_control_wake(struct psci_control_place *, uint16_t core, struct psci_control_orders *);
 
 /* A core is reset by itself. */

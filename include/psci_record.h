@@ -62,7 +62,7 @@ void psci_record_answer(const struct psci_port_orders *, struct psci_answer *);
 /* The firmware got an acknowledgement, of PSCI_FRAME_LEN bytes; what psci_take answered. */
 void psci_record_take(struct psci_record_line *, const uint8_t *frame, uint32_t what);
 
-/* The power controller got a message; its number `what`, and its acknowledgement. */
+/* The power controller got a message; its number `what`, also of struct psci_control_orders, and its acknowledgement. */
 void psci_record_deliver(struct psci_record_line *, const uint8_t *frame, uint32_t what, const struct psci_frame *ack);
 
 /* A wake-up of a core in its stop of the start of this number, or a reset; the power controller's number `what`, and the

@@ -28,7 +28,8 @@ release() {
             lib/x86_64/pkgconfig/psci.pc lib/aarch64/pkgconfig/psci{,-strict-align}.pc \
             share/man/man1/psci.1 share/bash-completion/completions/psci \
             share/zsh/site-functions/_psci share/fish/vendor_completions.d/psci.fish \
-            share/doc/gumdarts/{FORMATS,PORTING,REFERENCE,BOARDS,CHANGELOG}.md examples/host/{README,loop.c,player.c,player.h,pool.c,pool.h}
+            share/doc/gumdarts/{FORMATS,PORTING,REFERENCE,BOARDS,CHANGELOG}.md examples/host/{README,loop.c,player.c,player.h,pool.c,pool.h} \
+            rust/{Cargo.toml,build.rs,src/{lib,heap,sys}.rs,examples/vcpu.rs}
         headers | sed 's|^|include/|'
         git ls-files examples | grep -E '^examples/[^/]*\.(psci|out)$|^examples/boards/.*\.(machine|calls|answers)$'
     } | LC_ALL=C sort > "$work/lines"
@@ -44,7 +45,7 @@ release() {
     in_debian trixie
 }
 
-# released_by_pkg_config ARCHIVE: the host is built by what pkg-config says
+# released_by_pkg_config ARCHIVE: the host is built by what pkg-config says, and so is the crate
 released_by_pkg_config() {
     local words
     command -v pkg-config > /dev/null || { skip "the archive by pkg-config" pkg-config; return; }
@@ -56,6 +57,7 @@ released_by_pkg_config() {
     "$work/loop" examples/lost-message.psci > "$work/out"
     cp examples/lost-message.out "$work/lines"
     answers "the host by pkg-config"
+    ! has_cargo || vcpu_enters "$1/rust" -u PSCI_LIB PKG_CONFIG_PATH="$1/lib/x86_64/pkgconfig"
 }
 
 # as_said NAME FOLDER COMMAND..: what the README of the archive says works there

@@ -40,8 +40,9 @@ def every():
     """What each command takes, by its name; of sweep behind its kind, too."""
     found = {name: Taken(parser()) for name, (parser, _) in words.COMMANDS.items() if parser}
     found["compare"] = Taken(words.compare(), judge.parser())
-    kinds = sweep.kinds.every()
-    found["sweep"] = Taken(*map(sweep.of_kind, kinds.values()), sweep.of_report(), more=[*kinds, "report"])
+    kinds = {**{name: sweep.of_kind(kind) for name, kind in sweep.kinds.every().items()}, "report": sweep.of_report()}
+    found.update({f"sweep {name}": Taken(parser) for name, parser in kinds.items()})
+    found["sweep"] = Taken(more=kinds)
     found["help"] = Taken(more=list(words.COMMANDS))
     return found
 
@@ -62,7 +63,7 @@ def of_program():
 
 
 def first_words(taken, is_whole):
-    return [*taken, *(["--unproved"] if is_whole else []), "--help", "--version"]
+    return [*(it for it in taken if " " not in it), *(["--unproved"] if is_whole else []), "--help", "--version"]
 
 
 # ---- each shell
@@ -77,17 +78,20 @@ def bash(taken, is_whole):
     lines = [f"        {' | '.join(places)}) {what}return ;;" for what, places in kinds.items() if what is not None]
     lines += [f'        "{name} {name}") _psci_words {" ".join([*it.words, "--help"])}; return ;;'
               for name, it in taken.items() if it.words]
-    names = " | ".join(taken)
-    cases = [f'        {name}) _psci_words {" ".join([*it.words, *it.options])}{"; _psci_files" * it.has_files} ;;'
-             for name, it in taken.items()]
+    names = " | ".join(quoted(it) if " " in it else it for it in taken)
+    cases = [f'        {quoted(name) if " " in name else name}) _psci_words {" ".join(it.options or ["--help"])}'
+             f'{"; _psci_files" * it.has_files} ;;' for name, it in taken.items()]
     return "\n".join([
         "# Completion of `psci` and `./psci` for bash, which tools/completions.py writes:",
         "#   source completions/psci.bash", "", "_psci_words() { mapfile -t -O ${#COMPREPLY[@]} COMPREPLY < <(compgen -W \"$*\" -- \"$word\"); }",
         "_psci_files() {", "    [[ $word == -* ]] && return", "    compopt -o filenames 2> /dev/null",
         "    mapfile -t -O ${#COMPREPLY[@]} COMPREPLY < <(compgen -f -- \"$word\")", "}", "", "_psci() {",
         "    local word=${COMP_WORDS[COMP_CWORD]} before=${COMP_WORDS[COMP_CWORD - 1]} command= at",
+        "    # bash has --color=auto as three words",
+        "    if [[ $word == = ]]; then word=; elif [[ $before == = ]]; then before=${COMP_WORDS[COMP_CWORD - 2]}; fi",
         "    for ((at = 1; at < COMP_CWORD; at++)); do",
-        f"        case ${{COMP_WORDS[at]}} in {names}) command=${{COMP_WORDS[at]}}; break ;; esac", "    done",
+        *(["        [[ ${COMP_WORDS[at]} != --unproved ]] || continue"] if is_whole else []),
+        f"        case ${{command:+$command }}${{COMP_WORDS[at]}} in {names}) command+=${{command:+ }}${{COMP_WORDS[at]}} ;; *) break ;; esac", "    done",
         "    COMPREPLY=()", '    case "$command $before" in', *lines, "    esac", "    case $command in",
         f'        "") _psci_words {" ".join(first_words(taken, is_whole))} ;;', *cases, "    esac", "}", "",
         "complete -F _psci psci ./psci", ""])
@@ -98,37 +102,51 @@ def quoted(text):
 
 
 def zsh(taken, is_whole):
+    two = [quoted(it) for it in taken if " " in it]
     lines = ["#compdef psci", "# Completion of `psci` for zsh, which tools/completions.py writes: a folder of fpath has this",
              "# file, before compinit runs.", "", "_psci() {", "    local at=2",
              *(["    [[ $words[2] == --unproved ]] && at=3"] if is_whole else []),
              f"    if (( CURRENT == at )); then compadd -- {' '.join(first_words(taken, is_whole))}; return; fi",
-             "    case $words[at] in"]
+             "    local name=$words[at]",
+             *([f"    if (( CURRENT > at + 1 )); then case \"$name $words[at+1]\" in {'|'.join(two)}) name+=\" $words[++at]\" ;; esac; fi"]
+               if two else []), "    shift $((at - 1)) words", "    (( CURRENT -= at - 1 ))", "    case $name in"]
     for name, it in taken.items():
         parts = []
         for option, (kind, text) in it.options.items():
             text = "[" + (text or "").replace("[", "(").replace("]", ")").replace(":", "\\:") + "]"
             value = {"flag": None, "file": ":file:_files", "value": ":value: "}.get(kind, f":value:({' '.join(kind)})")
             parts.append(quoted(f"{option}{text}" if value is None else f"{option}={text}{value}"))
-        rest = [quoted("*:file:_files" if it.has_files else "*: : ")]
-        if it.words:
-            lines.append(f"        {name}) (( CURRENT == at + 1 )) && compadd -- {' '.join(it.words)}")
-            lines.append(f"            _arguments {' '.join([*parts, *rest])} ;;" if parts else "            ;;")
-        else:
-            lines.append(f"        {name}) _arguments {' '.join([*parts, *rest])} ;;")
+        rest = [quoted("*:file:_files")] if it.has_files else [quoted(f"1:word:({' '.join(it.words)})")] if it.words else []
+        lines.append(f"        {quoted(name) if ' ' in name else name}) _arguments {' '.join([*parts, *rest])} ;;")
     return "\n".join([*lines, "    esac", "}", "", '_psci "$@"', ""])
+
+
+# whether the words before the one at the cursor begin with these, or are these
+FISH = """function __psci_words
+    set -l words (commandline -opc)
+    set -e words[1]
+    test "$words[1]" = --unproved; and set -e words[1]
+    echo "$words"
+end
+function __psci_in
+    string match -q -- "$argv *" (__psci_words)" "
+end
+function __psci_behind
+    test (__psci_words) = "$argv"
+end
+"""
 
 
 def fish(taken, is_whole):
     lines = ["# Completion of `psci` for fish, which tools/completions.py writes: ~/.config/fish/completions has this file.", "",
-             "complete -c psci -f"]
-    for name in first_words(taken, is_whole):
-        lines.append(f"complete -c psci -n __fish_use_subcommand -a {name}")
+             FISH, "complete -c psci -f"]
+    lines.append(f"complete -c psci -n __psci_behind -a {quoted(' '.join(first_words(taken, is_whole)))}")
     for name, it in taken.items():
-        seen = f"complete -c psci -n '__fish_seen_subcommand_from {name}'"
+        seen = f"complete -c psci -n '__psci_in {name}'"
         if it.has_files:
             lines.append(f"{seen} -F")
         if it.words:
-            lines.append(f"{seen} -a {quoted(' '.join(it.words))}")
+            lines.append(f"complete -c psci -n '__psci_behind {name}' -a {quoted(' '.join(it.words))}")
         for option, (kind, text) in it.options.items():
             value = {"flag": "", "file": " -r -F", "value": " -x"}.get(kind, f" -x -a {quoted(' '.join(kind))}")
             lines.append(f"{seen} -l {option[2:]}{value} -d {quoted(text or '')}")

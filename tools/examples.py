@@ -60,14 +60,14 @@ class Examples:
     statements say: names of events in a row are written out."""
 
     def __init__(self, crate, by_none=None):
-        self.folders = [f"{TOP}/crates/{it}/proofs" for it in (crate, "psci_examples")]
+        self.folder = f"{TOP}/crates/{crate}/proofs"
         self.files, self.kept = {}, {}
         self.by_none = crate in BY_NONE if by_none is None else by_none
         # what else is written out: an example that has to use its cell goes by the names of boards
         self.named = "Event" if crate in USED else "BoardValue"
         # runs that several files of examples name
-        paths = [f"{TOP}/crates/{crate}/proofs/{file}.antt" for file in ("Histories", "Openings", "Cases")]
-        paths += [f"{TOP}/crates/psci_port/proofs/Cases.antt"] * (crate == "psci_sides")
+        paths = [f"{TOP}/crates/{crate}/proofs/{file}.antt" for file in ("Histories", "Waiting", "Playing")]
+        paths += [f"{TOP}/crates/psci_port/proofs/Playing.antt"] * (crate == "psci_sides")
         paths += [f"{TOP}/crates/psci_world_spec/proofs/Scripts.antt"] * (crate == "psci_headline")
         self.shared = "\n".join(text_of(path) for path in paths if os.path.exists(path))
 
@@ -76,8 +76,8 @@ class Examples:
         proved so."""
         file, _, word = name.partition(".")
         if file not in self.files:
-            paths = [f"{folder}/{file}.antt" for folder in self.folders]
-            text, said = "".join(text_of(path) for path in paths if os.path.exists(path)), {}
+            path = f"{self.folder}/{file}.antt"
+            text, said = text_of(path) if os.path.exists(path) else "", {}
             for theorem, it, proof in self.theorems(text):
                 for row, words, how in ((theorem, " ".join(it.split()), proof),
                                         *self.rows(text, it, proof), *self.of_each(theorem, text, it, proof)):

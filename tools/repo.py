@@ -109,12 +109,13 @@ class Crates:
 # ---- edits
 
 def cases(path):
-    """The texts of the cases in a file of them, by their names: each stands behind a line '== NAME'."""
-    parts = re.split(r"^== (\S+)\n", text_of(path), flags=re.M)
-    names = parts[1::2]
+    """The texts of the cases in a file of them, by their names: each stands behind a line '== NAME', or behind one
+    '== NAME in PATH', which says its line 'file: PATH' as well."""
+    parts = re.split(r"^== (\S+)(?: in (\S+))?\n", text_of(path), flags=re.M)
+    names = parts[1::3]
     if parts[0].strip() or len(set(names)) != len(names):
         raise BadEdit(f"{path} has a text without a name, or a name twice")
-    return dict(zip(names, parts[2::2]))
+    return {name: f"file: {file}\n{text}" if file else text for name, file, text in zip(names, parts[2::3], parts[3::3])}
 
 
 def read_edit(path):

@@ -65,6 +65,8 @@ bool psci_beside_is_started(const beside *b, uint32_t core) { return b->now.plac
 
 static void record(beside *b, const event *e) { b->events[b->now.events++] = *e; }
 static void begin(beside *b);
+static bool can_happen(const beside *b, const event *e);
+static uint32_t cause_of(beside *b, const event *e);
 
 #include "driver/ours.h"
 #include "driver/theirs.h"
@@ -166,8 +168,11 @@ uint32_t psci_beside_do(beside *b, const event *e) {
     b->why = cause;
     their_side(b, e, cause, &theirs);
     bool early = is_early(b, e, &ours, &theirs);
-    if (!agree(b, e, &ours, &theirs) && !refuses_as_well(b, e, &ours, &theirs))
-        return differs(b, e, cause, &ours, &theirs);
+    bool agrees = agree(b, e, &ours, &theirs) || refuses_as_well(b, e, &ours, &theirs);
+    if (!agrees && b->is_trying)
+        keep(b, true);
+    if (!agrees)
+        return b->is_trying ? PSCI_BESIDE_DIFFERS : differs(b, e, cause, &ours, &theirs);
     if (ours.sent && e->kind <= PSCI_BESIDE_ENTER)
         settle(b);
     forget(b, e);

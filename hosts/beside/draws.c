@@ -2,10 +2,12 @@
 #include "lists.h"
 
 static const uint8_t *in, *end;
+static bool is_long;
 
 void draw_from(const uint8_t *data, size_t size) {
     in = data;
     end = data + size;
+    is_long = size > 4096;
 }
 
 bool is_drawn(void) { return in == end; }
@@ -138,6 +140,14 @@ static uint32_t often_word(void) {
     return drawn >= 224 ? SET_SUSPEND_MODE : often[drawn % (sizeof often / sizeof *often)];
 }
 
+/* What would make a short list of a long one: a system that ends, and a CPU_OFF of the one core that runs. */
+static bool ends_list(uint64_t x0) {
+    uint32_t plain = (uint32_t)x0 & ~0x40000000u, many = 0;
+    for (uint32_t core = 0; core < beside_side.board.cores; core++)
+        many += psci_beside_runs(&beside_side, core);
+    return plain == 0x84000008 || plain == 0x84000009 || plain == 0x84000012 || (plain == 0x84000002 && many < 2);
+}
+
 static void arguments(uint64_t x[4]) {
     switch ((uint32_t)x[0] & ~0x40000000u) {
     case 0x84000001: x[1] = state(); x[2] = entry(); x[3] = context(); break;
@@ -154,6 +164,10 @@ static void arguments(uint64_t x[4]) {
 
 static void call_drawn(uint64_t x[4]) {
     x[0] = drawn_often && below(2) ? drawn_often : byte() < 128 ? often_word() : any_word();
+    if (is_long && (ends_list(x[0]) || below(4)))
+        x[0] = often[byte() % 5];
+    if (is_long && ends_list(x[0]))
+        x[0] = often[0];
     arguments(x);
     if (!(x[0] & 0x40000000))
         for (int at = 1; at < 4; at++)
@@ -176,6 +190,9 @@ static bool is_asleep(const struct psci_beside *b, uint32_t core) {
     return !psci_beside_runs(b, core) && !psci_beside_is_started(b, core) && b->now.wakes[core];
 }
 
+/* Which message from the last one on is the next: in a long list none is lost for good. */
+static uint32_t before(void) { return is_long ? below(16) / 2 : below(4) / 2; }
+
 struct psci_beside_event draw_event(void) {
     bool links = psci_beside_target.deliver;
     uint32_t kind = below(links ? 24 : 16);
@@ -193,9 +210,9 @@ struct psci_beside_event draw_event(void) {
         e.kind = links ? PSCI_BESIDE_RESET : PSCI_BESIDE_LACKS;
         e.number = byte();
     } else if (kind < 20) {
-        e = (struct psci_beside_event){PSCI_BESIDE_DELIVER, beside_side.now.messages - 1 - below(4) / 2, {0}};
+        e = (struct psci_beside_event){PSCI_BESIDE_DELIVER, beside_side.now.messages - 1 - before(), {0}};
     } else {
-        e = (struct psci_beside_event){PSCI_BESIDE_TAKE, beside_side.now.acks - 1 - below(4) / 2, {0}};
+        e = (struct psci_beside_event){PSCI_BESIDE_TAKE, beside_side.now.acks - 1 - before(), {0}};
     }
     return e;
 }

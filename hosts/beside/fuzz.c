@@ -12,7 +12,7 @@
 
 struct psci_beside beside_side;
 uint64_t beside_lists, beside_events;
-bool is_drawn_blindly;
+bool is_drawn_blindly, is_drawn_as_stored;
 static struct timespec began;
 
 /* Of this process's processor, so that other work on the machine counts for nothing. */

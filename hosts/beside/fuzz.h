@@ -7,12 +7,12 @@
 /* The peer of this target: its file has this. */
 extern const struct psci_beside_peer psci_beside_target;
 
-/* What it declares of itself; the groups of the report that is stored of it, each with how many lists of how many
- * it was seen in; and by function and code the sentence that decides, of code 0 for all but refusals. Each ends with
+/* What it declares of itself; the groups of the report that is stored of it, and the ways in which each showed, with how
+ * many lists of how many it did in; and by function and code the sentence that decides, of code 0 for all but refusals. Each ends with
  * a null pointer. hosts/beside/profile writes these. */
 extern const struct psci_beside_profile profile;
 extern const struct known {
-    const char *key;
+    const char *cause, *key;
     uint64_t seen, lists;
 } known[];
 extern const struct rule {
@@ -24,8 +24,8 @@ extern const struct rule {
 /* Each story of a stored report once more: 0 where each comes to its group, and no event of it can go. */
 int stories(const char *path);
 
-/* Whether inputs are drawn blindly: main.c says so. */
-extern bool is_drawn_blindly;
+/* Whether inputs are drawn blindly, and whether they are those of stored reports: main.c says so. */
+extern bool is_drawn_blindly, is_drawn_as_stored;
 
 /* One input, which is a list of events. */
 int LLVMFuzzerTestOneInput(const uint8_t *data, size_t size);

@@ -44,7 +44,7 @@ bool plays(const struct list *from, uint32_t at, uint32_t many, uint32_t also, c
             continue;
         uint32_t what = play_one(from, i, to);
         bool differs = what == PSCI_BESIDE_DIFFERS || what == PSCI_BESIDE_PARTED;
-        if (differs && is_text(beside_side.difference.key, key))
+        if (differs && (is_text(beside_side.difference.cause, key) || is_text(beside_side.difference.key, key)))
             return true;
         if (what >= PSCI_BESIDE_OVER)
             return false;

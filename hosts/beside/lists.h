@@ -33,7 +33,7 @@ struct list {
     uint16_t message[PSCI_BESIDE_EVENTS], ack[PSCI_BESIDE_EVENTS];
 };
 
-/* Plays a list without `many` events from `at` on, and without the one at `also`: whether it leads to this group.
+/* Plays a list without `many` events from `at` on, and without the one at `also`: whether it leads to this group, or way.
  * `to` is what has happened then, with the numbers that messages have there. (least.c) */
 bool plays(const struct list *, uint32_t at, uint32_t many, uint32_t also, const char *key, struct list *to);
 

@@ -274,7 +274,7 @@ int LLVMFuzzerTestOneInput(const uint8_t *data, size_t size) {
 }
 
 /* No peer, and so no report. */
-bool is_drawn_blindly;
+bool is_drawn_blindly, is_drawn_as_stored;
 int stories(const char *path) {
     fprintf(stderr, "machines: there are no stories: %s\n", path);
     return 2;

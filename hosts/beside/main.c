@@ -9,7 +9,8 @@
 #include <stdlib.h>
 #include <string.h>
 
-enum { MOST_INPUT = 1 << 16, DRAWN = 400 };
+/* one of 1024 lists is long, the 128th first: in it cores start so often that their start numbers have seven bits */
+enum { MOST_INPUT = 1 << 16, DRAWN = 400, LONG = 60000, EACH = 1024, FIRST = 128 };
 
 static uint64_t draw(uint64_t *seed) {
     *seed ^= *seed << 13;
@@ -18,12 +19,14 @@ static uint64_t draw(uint64_t *seed) {
 }
 
 static void draws(uint64_t many, uint64_t seed) {
-    static uint8_t input[DRAWN];
+    static uint8_t input[LONG];
     is_drawn_blindly = true;
+    is_drawn_as_stored = seed == 1;
     for (uint64_t at = 0; at < many; at++) {
-        for (size_t i = 0; i < DRAWN; i++)
+        size_t size = at % EACH == FIRST ? LONG : DRAWN;
+        for (size_t i = 0; i < size; i++)
             input[i] = (uint8_t)(draw(&seed) >> 24);
-        LLVMFuzzerTestOneInput(input, DRAWN);
+        LLVMFuzzerTestOneInput(input, size);
     }
 }
 

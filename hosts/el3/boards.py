@@ -20,8 +20,8 @@ HERE = os.path.dirname(os.path.abspath(__file__))
 MOST, STAGE, GUARD = 200, 1 << 20, 1 << 12
 
 PAGE, LEVELS = 12, 4
-# attributes of a block, whose descriptor ends with 1; a page's ends with 3. 0x40.. is never executed
-KINDS = {"code": 0x781, "device": 0x40000000000405, "secure": 0x40000000000701, "normal": 0x40000000000721}
+# attributes of a block, whose descriptor ends with 1; a page's ends with 3. 0x40.. is never executed; bit 6 is always set in EL3
+KINDS = {"code": 0x7c1, "device": 0x40000000000445, "secure": 0x40000000000741, "normal": 0x40000000000761}
 # how many bits an address has, by the highest one, and what TCR_EL3 says of that: T0SZ, PS, and where walks begin
 WIDTHS = ((32, 0), (36, 1), (40, 2), (48, 5))
 

@@ -25,9 +25,9 @@ static void rest(struct psci_port_core *side, const struct last_word *last, enum
         board_waits();
         return;
     }
-    gic_sleeps();
+    uint64_t groups = gic_sleeps();
     stand(last, caches);
-    gic_rises();
+    gic_rises(groups);
 }
 
 /* Until it takes up a start: the last thing that a core does in one, or the first behind a reset. On a machine its power
@@ -53,10 +53,19 @@ void wait_for_start(struct psci_port_core *side, enum caches caches) {
     }
 }
 
+/* A reset leaves them unknown. That which woke a core is the normal world's to answer. */
+static void stop_timers(void) {
+    write_register("cntp_ctl_el0", 0);
+    write_register("cntv_ctl_el0", 0);
+    write_register("cnthp_ctl_el2", 0);
+}
+
 /* Nobody has asked for the first entry of a life: there the boot core gets what Linux wants in x0. */
 static _Noreturn void begin(const struct psci_port_orders *orders) {
     uint64_t x0 = orders->cause == PSCI_CAUSE_BOOT ? DEVICE_TREE : orders->x0;
     COUNT(entries);
+    if (orders->cause != PSCI_CAUSE_WAKE)
+        stop_timers();
     begin_normal_world();
     record_begins(orders->address, x0);
     leave_for(orders->address, x0);
@@ -106,6 +115,7 @@ static unsigned find_number(void) {
     lock();
     *own_number() = psci_core_of(&firmware, own_mpidr());
     unlock();
+    MARK(64 + paths[this_core()][1]);
     return this_core();
 }
 
@@ -123,11 +133,9 @@ static void start_control(void) {
 void on_reset(void) {
     board_comes_out();
     open_features();
-    if (own_mpidr() == BOOT && !gic_is_started()) {
+    if (own_mpidr() == BOOT && !gic_is_started())
         start_machine();
-        STORE(kept.boot, READY);
-    }
-    while (!gic_is_started() || LOAD(kept.boot) != READY)
+    while (!gic_is_started())
         relax();
     start_control();
     unsigned core = find_number();
@@ -135,7 +143,10 @@ void on_reset(void) {
     struct psci_port_core *side = &sides[core];
     if (side->post != PSCI_PORT_ENTERING) { /* else its power never went, and it took up a start before */
         psci_port_comes_back(side);
+        if (side->stop == PSCI_PORT_SUSPENDED)
+            gic_opens(); /* what wakes it may be pending, and its interface has lost its groups */
         wait_for_start(side, OWN_CACHES);
+        gic_bell_alone();
     }
     enter(side);
     lost_registers(core);

@@ -38,6 +38,7 @@ bool gic_is_started(void) {
 void gic_start_core(unsigned core) {
     uint32_t mine = mmio32(GICD + 0x800) & 0xff; /* ITARGETSR0: of its own interrupts each core reads itself */
     mmio32(GICD + 0x80) = NORMAL_WORLD;
+    put_first(GICD);
     mmio32(GICD + 0x100) = 1u << TIMER; /* ISENABLER; SGIs are always on */
     mmio32(GICC + 4) = 0xff;            /* PMR */
     gic_bell_alone();
@@ -46,6 +47,7 @@ void gic_start_core(unsigned core) {
 
 /* CTLR: group 0 is on, and is FIQs. The normal world sets and clears the bit of its own group. */
 void gic_bell_alone(void) { mmio32(GICC) = 9; }
+void gic_opens(void) { mmio32(GICC) = 0xb; }
 
 struct bell gic_bell(unsigned core) {
     return (struct bell){GICD + 0xf00, __atomic_load_n(&bells[core], __ATOMIC_SEQ_CST)}; /* SGIR */

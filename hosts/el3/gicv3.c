@@ -8,6 +8,7 @@
 #define SRE_EL1 "s3_0_c12_c12_5"
 #define SRE_EL2 "s3_4_c12_c9_5"
 #define SRE_EL3 "s3_6_c12_c12_5"
+#define CTLR_EL3 "s3_6_c12_c12_4"
 #define IGRPEN0 "s3_0_c12_c12_6"
 #define IGRPEN1_EL3 "s3_6_c12_c12_7"
 #define PMR "s3_0_c4_c6_0"
@@ -83,8 +84,22 @@ static void sleep_or_rise(uintptr_t frame, bool sleeps) {
     }
 }
 
-void gic_sleeps(void) { sleep_or_rise(frames[this_core()], true); }
-void gic_rises(void) { sleep_or_rise(frames[this_core()], false); }
+/* No group is on as it sleeps: what comes asks for the core's power. An emulator has nobody who hears that. */
+uint64_t gic_sleeps(void) {
+    uint64_t groups = read_register(IGRPEN1_EL3);
+#ifndef EMULATED
+    write_register(IGRPEN0, 0);
+    write_register(IGRPEN1_EL3, 0);
+#endif
+    sleep_or_rise(frames[this_core()], true);
+    return groups;
+}
+
+void gic_rises(uint64_t groups) {
+    sleep_or_rise(frames[this_core()], false);
+    write_register(IGRPEN0, 1);
+    write_register(IGRPEN1_EL3, groups);
+}
 
 void gic_start_core(unsigned core) {
     uintptr_t mine = own_frame(), private = mine + 0x10000;
@@ -92,10 +107,12 @@ void gic_start_core(unsigned core) {
     sleep_or_rise(mine, false);
     mmio32(private + 0x80) = NORMAL_WORLD;
     mmio32(private + 0xd00) = 0;
+    put_first(private);
     mmio32(private + 0x100) = 1u << BELL | 1u << TIMER;
     write_register(SRE_EL3, 15);
     write_register(SRE_EL2, 15);
     write_register(SRE_EL1, 7);
+    write_register(CTLR_EL3, 0); /* one write ends an interrupt */
     write_register(PMR, 0xff);
     write_register(IGRPEN0, 1);
     gic_bell_alone();
@@ -103,6 +120,7 @@ void gic_start_core(unsigned core) {
 }
 
 void gic_bell_alone(void) { write_register(IGRPEN1_EL3, 0); }
+void gic_opens(void) { write_register(IGRPEN1_EL3, 1); }
 
 struct bell gic_bell(unsigned core) {
     return (struct bell){0, __atomic_load_n(&bells[core], __ATOMIC_SEQ_CST)};

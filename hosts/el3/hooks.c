@@ -9,8 +9,10 @@ OR_THE_BOARD void board_comes_out(void) {}
 OR_THE_BOARD void board_begins(void) {}
 OR_THE_BOARD void board_resets(unsigned core) { (void)core; }
 OR_THE_BOARD void board_starts(unsigned core, bool was_reset) { (void)was_reset, gic_ring(core); }
+OR_THE_BOARD void board_switches(const struct psci_ctl_domain *domain) { (void)domain; }
 OR_THE_BOARD void board_waits(void) { wait_for_interrupt(); }
 
-/* An interrupt controller that has no part for each core. */
-OR_THE_BOARD void gic_sleeps(void) {}
-OR_THE_BOARD void gic_rises(void) {}
+/* An interrupt controller that has no part for each core, or none that loses its power. */
+OR_THE_BOARD void gic_opens(void) {}
+OR_THE_BOARD uint64_t gic_sleeps(void) { return 0; }
+OR_THE_BOARD void gic_rises(uint64_t groups) { (void)groups; }

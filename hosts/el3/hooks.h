@@ -16,6 +16,10 @@ void board_resets(unsigned core);
 /* Its door is open. */
 void board_starts(unsigned core, bool was_reset);
 
+/* A domain goes to this depth, or comes back, before anybody hears of it. An emulator has no power to switch. */
+struct psci_ctl_domain;
+void board_switches(const struct psci_ctl_domain *);
+
 /* By a core at its door whose power stays, and which has nothing to do. */
 void board_waits(void);
 

@@ -10,7 +10,7 @@ SECTIONS
     . = DATA;
     .data : AT(data_load) { data_start = .; *(.data*) *(.got*) . = ALIGN(16); data_end = .; }
     .bss : { bss_start = .; *(.bss*) *(COMMON) . = ALIGN(16); bss_end = .; }
-    .kept (NOLOAD) : { kept_start = .; *(.kept*) . = ALIGN(16); kept_end = .; }
+    .kept (NOLOAD) : ALIGN(256) { kept_start = .; *(.kept*) . = ALIGN(16); kept_end = .; }
     ASSERT(. < STACKS, "the stacks are overrun")
     /DISCARD/ : { *(.comment) *(.eh_frame*) *(.note*) }
 }

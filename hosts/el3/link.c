@@ -48,7 +48,7 @@ struct last_word tell_stop(struct psci_port_core *side, enum caches caches) {
     record_stands(side->used);
     if (caches != NO_CACHES)
         return (struct last_word){&door->stopped, side->used, gic_bell(SCP)};
-    STORE(door->stopped, side->used);
+    say_in_memory(&door->stopped, side->used);
     gic_ring(SCP);
     return (struct last_word){0};
 }
@@ -56,8 +56,7 @@ struct last_word tell_stop(struct psci_port_core *side, enum caches caches) {
 /* Its power may go at any time, so the word is in memory before it rings. */
 void tell_wake_up(struct psci_port_core *side) {
     struct door *door = &shared.doors[side->core];
-    STORE(door->woken, side->told);
-    clean(&door->woken, &door->woken + 1);
+    say_in_memory(&door->woken, side->told);
     gic_ring(SCP);
 }
 

@@ -17,11 +17,21 @@
 
 static inline void wait_for_interrupt(void) { __asm__ volatile("dsb sy\n wfi" ::: "memory"); }
 
+/* For harsh/caches.c, which sees loads alone: what is cleaned, the cluster that is switched off, and that of a core. */
+#ifdef CACHE_MODEL
+extern volatile char marks[128];
+#define SHOWN "ldrb wzr, [%0]\n"
+#define MARK(at) ((void)marks[at])
+#else
+#define SHOWN
+#define MARK(at) ((void)0)
+#endif
+
 /* What stands there is in memory, and in the cache of no core that is coherent. */
 static inline void clean(const void *first, const void *end) {
     uint64_t line = 4ull << (read_register("ctr_el0") >> 16 & 15);
     for (uintptr_t at = (uintptr_t)first & -line; at < (uintptr_t)end; at += line)
-        __asm__ volatile("dc civac, %0" ::"r"(at) : "memory");
+        __asm__ volatile(SHOWN "dc civac, %0" ::"r"(at) : "memory");
     __asm__ volatile("dsb sy" ::: "memory");
 }
 

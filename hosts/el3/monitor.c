@@ -49,7 +49,7 @@ struct call {
  * have cleaned theirs into that. One that is on its way again has done so. */
 static void await_neighbours(unsigned core, const uint64_t *before) {
     for (unsigned other = 0; other < CORES; other++)
-        if (other != core && paths[other][1] == paths[core][1])
+        if (paths[other][1] == paths[core][1] && other != core)
             while (LOAD(shared.doors[other].leaves) == before[other] && clean_start(other) != before[other])
                 relax();
 }

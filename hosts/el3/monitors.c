@@ -29,7 +29,7 @@ struct last_word tell_stop(struct psci_port_core *side, enum caches caches) {
     record_stands(side->used);
     STORE(door->stopped, side->used);
     if (caches == NO_CACHES)
-        STORE(door->clean, side->used);
+        say_in_memory(&door->clean, side->used);
     serve_waiting(side->core);
     unlock();
     return (struct last_word){.word = &door->clean, .says = side->used};

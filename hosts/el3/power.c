@@ -45,12 +45,18 @@ void open_door(unsigned core) {
 /* A domain goes to its depth. QEMU's cores keep their power, so a switch that would cut a core which
  * executes is counted. */
 static void switch_domain(const struct psci_ctl_domain *domain) {
-    for (unsigned core = 0; core < CORES; core++)
-        if (paths[core][domain->level] == domain->index && !stands_still(core)) {
-            COUNT(cuts);
-            say("# el3: POWER CUT: core %u executes below domain %u of level %u\n", core,
-                domain->index, domain->level);
-        }
+    board_switches(domain);
+    for (unsigned core = 0; core < CORES; core++) {
+        if (paths[core][domain->level] != domain->index)
+            continue;
+        if (domain->level && domain->depth == PSCI_CTL_POWER_DOWN)
+            MARK(paths[core][1]);
+        if (stands_still(core))
+            continue;
+        COUNT(cuts);
+        say("# el3: POWER CUT: core %u executes below domain %u of level %u\n", core,
+            domain->index, domain->level);
+    }
 }
 
 #define TOLD(what) PEEK(kept.tally.what)
@@ -76,6 +82,7 @@ static _Noreturn void end_life(bool resets) {
     extern char kept_start[], kept_end[];
     while (record_tell()) {
     }
+    record_end();
     look_at_stacks();
     tell_tally();
     STORE(kept.boot, WARM);

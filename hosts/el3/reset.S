@@ -62,7 +62,11 @@
 
         .section .text.reset, "ax"
         .global reset
+#ifdef POWER_GOES
+reset:  b       spoil_all
+#else
 reset:  b       cold
+#endif
 
         .macro  unexpected_at which
         .balign 128
@@ -71,7 +75,7 @@ reset:  b       cold
         .endm
 
 /* What is not expected: all that comes from EL3 itself; by vector 9 an IRQ, which is not routed here; by 11 an SError
- * of the normal world; and what comes from AArch32. */
+ * of the normal world, which neither is; and what comes from AArch32. */
         .macro  table name, forget
         .balign 2048
         .global \name
@@ -128,6 +132,11 @@ unexpected:                             /* it ends the core's work, so its stack
 /* The machine was reset, or a core whose power was away comes back: EL3, and all else unknown. */
         .global cold
 cold:
+#ifdef POWER_GOES
+        b       spoil
+        .global spoiled
+spoiled:
+#endif
         msr     daifset, #15
         bl      find_vectors
         msr     vbar_el3, x4
@@ -138,6 +147,9 @@ cold:
         msr     tcr_el3, x0
         adrp    x0, map
         msr     ttbr0_el3, x0
+        mov     x0, #0x535              /* SCR: NS, HCE, RW; FIQs come here, aborts and SErrors do not; SMD clear */
+        msr     scr_el3, x0
+        isb                             /* by NS it is known whose EL2 and EL1 forget */
         tlbi    alle3                   /* nothing of before: a core out of coherency has heard of no change */
         tlbi    alle2
         tlbi    alle1
@@ -149,8 +161,6 @@ cold:
         isb
         ldr     x0, =FREQUENCY          /* what counts beside, and nobody has set before */
         msr     cntfrq_el0, x0
-        mov     x0, #0x53d              /* SCR: NS, HCE, RW; FIQs, SErrors and external aborts come here; SMD clear */
-        msr     scr_el3, x0
         msr     cptr_el3, xzr
         msr     mdcr_el3, xzr
         isb

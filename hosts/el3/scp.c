@@ -57,6 +57,7 @@ static void start_timer(void) {
 
 static bool is_outstanding(void) {
     lock();
+    take_acks(); /* no core may execute that takes them */
     bool some = send_again();
     unlock();
     return some;

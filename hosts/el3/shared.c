@@ -6,3 +6,6 @@ struct psci_place firmware;
 struct psci_poller pollers[CORES];
 struct psci_port_core sides[CORES];
 uint32_t taken;
+#ifdef CACHE_MODEL
+volatile char marks[128];
+#endif

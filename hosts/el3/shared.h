@@ -50,12 +50,18 @@ struct tally {
 
 /* What a reset of the machine leaves: the power controller counts lives on. */
 struct kept {
-    uint32_t boot; /* 0 as the power comes on, WARM as a reset is ordered, READY once the boot core is through */
+    uint32_t boot; /* 0 as the power comes on, WARM as a reset is ordered, READY once a life has begun */
     struct psci_control_place control;
     struct tally tally;
 };
 enum { READY = 0x52454459, WARM = 0x5741524d };
 extern struct kept kept;
+
+/* By a core, of a word of its own that it writes behind its caches, too, or whose power may go: no cache has it. */
+static inline void say_in_memory(uint64_t *word, uint64_t value) {
+    STORE(*word, value);
+    clean(word, word + 1);
+}
 
 /* Of a tally, which several cores may count at once. */
 #define COUNT(what) ((void)__atomic_fetch_add(&kept.tally.what, 1, __ATOMIC_RELAXED))

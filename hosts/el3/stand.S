@@ -10,10 +10,11 @@
  * its own. */
         .macro  clean_by_sets
         mrs     x9, clidr_el1
-        ubfx    x10, x9, #21, #3        /* LoUIS */
+        ubfx    x10, x9, #21, #3        /* LoUIS, which does not say what is a core's own where it is 0 */
         ubfx    x11, x9, #24, #3        /* LoC */
         cmp     x1, #1
-        csel    x10, x10, x11, eq
+        ccmp    x10, #0, #4, eq
+        csel    x10, x11, x10, eq
         mov     x11, #0                 /* twice the level, as CSSELR_EL1 has it */
 1:      cmp     x11, x10, lsl #1
         b.hs    5f
@@ -63,6 +64,9 @@
         isb
 2:      dsb     sy
         wfi
+#ifdef POWER_GOES                       /* what ends it brings the core back through its reset vector */
+        b       cold
+#endif
         .endm
 
 /* void stand(const struct last_word *, enum caches): on a machine its power goes in the WFI. Where it does not, what

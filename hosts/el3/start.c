@@ -27,14 +27,14 @@ static void check(const char *what, uint32_t opened) {
         wait_for_interrupt();
 }
 
-static void open_firmware(void) {
+static void open_firmware(bool is_warm) {
     pool_give(heap, sizeof heap);
     check("the firmware", psci_open_machine(&firmware, &board, &described, BOOT));
     for (unsigned core = 0; core < CORES; core++) {
         check("a poller", psci_open_poller(&firmware, &pollers[core]));
         psci_port_new(&sides[core], core);
     }
-    if (kept.boot != WARM)
+    if (!is_warm)
         say("# el3: heap of the firmware: %u\n", (unsigned)pool_taken());
 }
 
@@ -50,7 +50,6 @@ static void open_controller(void) {
  * the controller, too, so both sides begin in life 1, as when the power comes on. */
 void start_machine(void) {
     bool is_warm = kept.boot == WARM, is_cut = kept.boot == READY;
-    STORE(kept.boot, is_warm ? WARM : 0);
     memcpy(data_start, data_load, data_end - data_start);
     memset(bss_start, 0, bss_end - bss_start);
     clean(bss_start, bss_end); /* what is written behind caches has no old line in one */
@@ -59,7 +58,9 @@ void start_machine(void) {
         say("\n# el3: a reset that nobody here has ordered\n");
     if (!is_warm)
         open_controller();
-    open_firmware();
+    STORE(kept.boot, READY);
+    clean(&kept.boot, &kept.boot + 1); /* such a reset loses what caches alone have */
+    open_firmware(is_warm);
 #ifndef SCP_MPIDR
     open_door(0);
 #endif

@@ -31,13 +31,23 @@ static void look(const char *what, uint32_t answer) {
     fprintf(stderr, "vmm: %s was refused: %u\n", what, answer);
 }
 
-/* A core that was started has entered: its thread finds at its door how. */
-static void open_door(const struct psci_guest_turn *turn) {
+/* As at a cold boot: each life begins so. The boot core finds at its door how it entered. */
+void reset_core(struct core *core) {
+    core->executes = core->is_new = false;
+    core->is_open = core == cores;
+    core->how = (struct psci_stop){0};
+    core->order = 0;
+    reset_vcpu(core);
+}
+
+/* A core that was started has entered: its thread finds at its door how. By CPU_ON it has the byte order of its caller. */
+static void open_door(const struct psci_guest_turn *turn, struct core *caller) {
     struct core *core = &cores[turn->start.core];
     if (!turn->start.number)
         return;
     core->next = turn->start;
     core->entry = turn->entry;
+    core->order = turn->start.cause == PSCI_CAUSE_ON ? byte_order(caller) : 0;
     core->is_open = true;
     record_enter(core);
     pthread_cond_signal(&core->bell);
@@ -59,7 +69,7 @@ void wake(struct core *core) {
         psci_guest_wake(&guest, number_of(core), &turn);
         look("a wake-up", turn.what);
         record_wake(core, &turn);
-        open_door(&turn);
+        open_door(&turn, core);
     }
     pthread_mutex_unlock(&lock);
 }
@@ -71,6 +81,15 @@ void enter(struct core *core, struct psci_answer *answer) {
     core->how = (struct psci_stop){0};
     core->executes = core->entry.what != PSCI_STOP;
     *answer = core->entry;
+}
+
+/* The guest's first exit tells that the core is in it. In a life that is over nobody asks. */
+void begun(struct core *core) {
+    pthread_mutex_lock(&lock);
+    if (life == GOES_ON)
+        record_begins(core);
+    pthread_mutex_unlock(&lock);
+    step(core, false);
 }
 
 /* Whether it asks for SMCCC_VERSION, which KVM answers itself. */
@@ -95,7 +114,7 @@ static bool ask_firmware(struct core *core, const uint64_t *x, struct psci_guest
         record_message(&turn->caller.message, turn->start.number);
         if (turn->life != core->start.life)
             end_life(turn->life);
-        open_door(turn);
+        open_door(turn, core);
     } else if (life == GOES_ON) {
         look("a call", turn->what);
     }
@@ -121,6 +140,19 @@ void call(struct core *core) {
         set_x0(core, register_of(turn.caller.code, x[0]));
     else if (core->how.wakes)
         set_state(core, KVM_MP_STATE_SUSPENDED);
+}
+
+bool take_exit(struct core *core) {
+    const struct kvm_run *run = core->run;
+    if (core->is_new && run->exit_reason != KVM_EXIT_INTR)
+        begun(core);
+    if (run->exit_reason == KVM_EXIT_HYPERCALL)
+        call(core);
+    else if (run->exit_reason == KVM_EXIT_SYSTEM_EVENT && run->system_event.type == KVM_SYSTEM_EVENT_WAKEUP)
+        wake(core);
+    else
+        return run->exit_reason == KVM_EXIT_DEBUG || run->exit_reason == KVM_EXIT_INTR;
+    return true;
 }
 
 /* The cores of each cluster count from 0, as the board's affinity words have them. */
@@ -149,5 +181,5 @@ void open_library(const char *board) {
     pool_give(heap, sizeof heap);
     must_open(psci_guest_open(&guest, (const uint8_t *)board, strlen(board), &turn));
     find_cores();
-    open_door(&turn);
+    open_door(&turn, 0);
 }

@@ -18,6 +18,13 @@ static void print(uint64_t at, uint8_t letter) {
 
 void pass_alarm(void) { pass(&alarm_clock, sizeof alarm_clock); }
 
+/* Its line falls with the interrupt controller's, which is reset after it. */
+void reset_alarm(void) {
+    pthread_mutex_lock(&devices);
+    memset(&alarm_clock, 0, sizeof alarm_clock);
+    pthread_mutex_unlock(&devices);
+}
+
 /* What was written since, in a ring of KVM's. */
 static void drain(void) {
     struct kvm_coalesced_mmio_ring *ring = (void *)((uint8_t *)cores[0].run + KVM_COALESCED_MMIO_PAGE_OFFSET * PAGE);

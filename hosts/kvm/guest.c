@@ -7,14 +7,27 @@
 #include <sys/ioctl.h>
 #include <sys/mman.h>
 
-int machine, interrupts;
+int machine;
 static uint8_t *memory;
 
-void load(const char *name, uint64_t at) {
-    FILE *file = name ? fopen(name, "rb") : 0;
+static void load(const char *name, uint64_t at) {
+    FILE *file = fopen(name, "rb");
     if (!file || !fread(memory + at, 1, MEMORY_SIZE - at, file))
-        fail(name ? name : "nothing to load");
+        fail(name);
     fclose(file);
+}
+
+/* As at a cold boot: each life begins so. The image comes first and last: its header says what memory is its own, and a
+ * guest may have written over that. */
+void reset_machine(const char *image, const char *tree, const char *initrd) {
+    reset_alarm();
+    reset_interrupts();
+    load(image, KERNEL);
+    empty_memory(memory, MEMORY_SIZE, KERNEL);
+    load(image, KERNEL);
+    load(tree, TREE);
+    if (initrd)
+        load(initrd, INITRD);
 }
 
 /* Page by page, without those that are empty. */
@@ -38,15 +51,14 @@ static void *give_memory(uint32_t slot, uint64_t at, size_t size, uint32_t flags
 }
 
 /* Without PSCI_0_2 KVM would answer the words of PSCI 0.1 itself. */
-static void open_core(struct core *core, int kvm, struct kvm_vcpu_init init) {
+static void open_core(struct core *core, int kvm, struct kvm_vcpu_init kind) {
     size_t size = (size_t)ask(kvm, KVM_GET_VCPU_MMAP_SIZE, 0, "a core's page");
     int vcpu = ask(machine, KVM_CREATE_VCPU, (void *)vcpu_number(core), "a core");
     struct kvm_run *run = mmap(0, size, PROT_READ | PROT_WRITE, MAP_SHARED, vcpu, 0);
     if (run == MAP_FAILED)
         fail("a core's page");
-    init.features[0] |= 1u << KVM_ARM_VCPU_PSCI_0_2;
-    ask(vcpu, KVM_ARM_VCPU_INIT, &init, "a core's reset");
-    adopt(core, vcpu, run);
+    kind.features[0] |= 1u << KVM_ARM_VCPU_PSCI_0_2;
+    adopt(core, vcpu, run, &kind);
 }
 
 static void open_interrupts(void) {
@@ -71,7 +83,7 @@ static void open_console(bool has_ring) {
 }
 
 void open_machine(bool has_ring) {
-    struct kvm_vcpu_init init;
+    struct kvm_vcpu_init kind;
     int kvm = open("/dev/kvm", O_RDWR | O_CLOEXEC);
     if (kvm < 0)
         fail("/dev/kvm");
@@ -79,8 +91,9 @@ void open_machine(bool has_ring) {
     filter_calls(machine);
     memory = give_memory(0, MEMORY, MEMORY_SIZE, 0);
     open_console(has_ring);
-    ask(machine, KVM_ARM_PREFERRED_TARGET, &init, "the kind of core");
+    ask(machine, KVM_ARM_PREFERRED_TARGET, &kind, "the kind of core");
     for (struct core *core = cores; core < cores + many_cores; core++)
-        open_core(core, kvm, init);
+        open_core(core, kvm, kind);
     open_interrupts();
+    reset_interrupts();
 }

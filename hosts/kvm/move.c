@@ -3,6 +3,7 @@
 #include "move.h"
 
 #include <stdio.h>
+#include <string.h>
 #include <sys/ioctl.h>
 
 struct departure departure;
@@ -15,11 +16,15 @@ void count_call(uint64_t word) {
         __atomic_add_fetch(&calls, 1, __ATOMIC_SEQ_CST);
 }
 
-/* One thread prints at a time. */
+/* How much of the text the console's last letters are. One thread prints at a time. */
 void hear(char letter) {
     const char *text = departure.text;
-    if (text && text[heard])
-        heard = text[heard] == letter ? heard + 1 : *text == letter;
+    if (!text || !text[heard])
+        return;
+    size_t now = heard + 1;
+    while (now && (text[now - 1] != letter || memcmp(text, text + heard + 1 - now, now - 1)))
+        now--;
+    heard = now;
 }
 
 bool is_due(void) {
@@ -37,13 +42,7 @@ void pass(void *bytes, size_t size) {
     must(size == (writes ? fwrite(bytes, 1, size, file) : fread(bytes, 1, size, file)));
 }
 
-/* Saved words name no board: the other monitor opens a guest of it first, in a heap of its own. */
-static void load_power(const char *board, const uint64_t *words, size_t many) {
-    open_library(board);
-    must(!psci_guest_load(&guest, words, many));
-}
-
-static void pass_power(const char *board) {
+static void pass_power(void) {
     static uint64_t words[0x1000];
     size_t many = writes ? psci_guest_save_size(&guest) : 0;
     pass(&many, sizeof many);
@@ -52,7 +51,7 @@ static void pass_power(const char *board) {
         must(!psci_guest_save(&guest, words, many));
     pass(words, many * sizeof *words);
     if (!writes)
-        load_power(board, words, many);
+        must(!psci_guest_load(&guest, words, many));
 }
 
 /* What KVM tells by one request and takes by the other. */
@@ -100,52 +99,22 @@ static void pass_core(struct core *core) {
     pass_registers(core);
     pass_asked(core->vcpu, KVM_GET_VCPU_EVENTS, KVM_SET_VCPU_EVENTS, &events, &events, sizeof events);
     pass_asked(core->vcpu, KVM_GET_MP_STATE, KVM_SET_MP_STATE, &state, &state, sizeof state);
+    step(core, core->is_new);
 }
 
-/* The interrupt controller's words, in the order in which they are filled again: how an interrupt is, then its line, then
- * whether it is pending. The distributor has 32 to 255, each core's part the first 32. */
-enum part {
-    ALL = KVM_DEV_ARM_VGIC_GRP_DIST_REGS,
-    OWN = KVM_DEV_ARM_VGIC_GRP_REDIST_REGS,
-    LINES = KVM_DEV_ARM_VGIC_GRP_LEVEL_INFO,
-    ICC = KVM_DEV_ARM_VGIC_GRP_CPU_SYSREGS, /* by op0, op1, CRn, CRm and op2 */
-};
-static const struct row {
-    enum part part;
-    uint32_t at, many;
-} rows_of_all[] = {
-    {ALL, 0x0000, 1}, {ALL, 0x0084, 7}, {ALL, 0x0c08, 14},   /* GICD_CTLR, groups, edges or levels */
-    {ALL, 0x0420, 56}, {ALL, 0x6100, 448}, {ALL, 0x0104, 7}, /* priorities, routes, enabled */
-    {LINES, 32, 7}, {ALL, 0x0304, 7},                        /* lines, active */
-    {ALL, 0x0204, 7},                                        /* pending */
-};
-static const struct row rows_of_core[] = {
-    {OWN, 0x00000, 1}, {OWN, 0x00014, 1},                    /* GICR_CTLR, GICR_WAKER */
-    {OWN, 0x10080, 1}, {OWN, 0x10c00, 2}, {OWN, 0x10400, 8}, /* as above */
-    {OWN, 0x10100, 1}, {LINES, 0, 1}, {OWN, 0x10300, 1},
-    {OWN, 0x10200, 1},                                    /* pending */
-    {ICC, 0xc230, 1}, {ICC, 0xc643, 2}, {ICC, 0xc648, 1}, /* PMR; BPR0, AP0R0; AP1R0 */
-    {ICC, 0xc663, 5},                                     /* BPR1, CTLR, SRE, IGRPEN0, IGRPEN1 */
-};
-
-static void pass_row(const struct row *row, uint64_t affinity) {
-    uint64_t step = row->part == LINES ? 32 : row->part == ICC ? 1 : 4;
-    for (uint64_t k = 0; k < row->many; k++) {
-        uint64_t value = 0;
-        struct kvm_device_attr it = {0, row->part, affinity << 32 | (row->at + k * step), (uintptr_t)&value};
-        pass_asked(interrupts, KVM_GET_DEVICE_ATTR, KVM_SET_DEVICE_ATTR, &it, &value, sizeof value);
-    }
+static void pass_controller(void) {
+    static uint64_t words[MOST_INTERRUPT_WORDS];
+    if (writes)
+        pass_interrupts(KVM_GET_DEVICE_ATTR, words);
+    pass(words, sizeof words);
+    if (!writes)
+        pass_interrupts(KVM_SET_DEVICE_ATTR, words);
 }
 
-static void pass_interrupts(void) {
-    for (unsigned k = 0; k < sizeof rows_of_all / sizeof *rows_of_all; k++)
-        pass_row(&rows_of_all[k], 0);
-    for (struct core *core = cores; core < cores + many_cores; core++) {
-        if (!writes) /* KVM begins with those enabled that cores send each other */
-            set_attribute(interrupts, OWN, core->mpidr << 32 | 0x10180, &(uint32_t){~0u}, "the GIC");
-        for (unsigned k = 0; k < sizeof rows_of_core / sizeof *rows_of_core; k++)
-            pass_row(&rows_of_core[k], core->mpidr);
-    }
+/* Saved words name no board: the other monitor opens a guest of it first, in a heap of its own. */
+static void open_other(const char *board, bool has_ring) {
+    open_library(board);
+    open_machine(has_ring);
 }
 
 void pass_guest(const char *name, bool is_written, const char *board, bool has_ring) {
@@ -154,16 +123,16 @@ void pass_guest(const char *name, bool is_written, const char *board, bool has_r
     file = fopen(name, writes ? "wb" : "rb");
     if (!file)
         fail(name);
-    pass_power(board);
     if (writes)
         ask_counters(KVM_GET_ONE_REG, counters);
     else
-        open_machine(has_ring);
+        open_other(board, has_ring);
+    pass_power();
     pass(counters, sizeof counters);
     pass_memory();
     for (struct core *core = cores; core < cores + many_cores; core++)
         pass_core(core);
-    pass_interrupts();
+    pass_controller();
     pass_alarm();
     if (!writes)
         ask_counters(KVM_SET_ONE_REG, counters);

@@ -25,6 +25,5 @@ void pass_guest(const char *name, bool is_written, const char *board, bool has_r
 void pass(void *bytes, size_t size);
 void pass_memory(void);
 void pass_alarm(void);
-extern int interrupts;
 
 #endif

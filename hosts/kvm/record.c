@@ -32,7 +32,7 @@ void record_into(const char *name, const char *board) {
     fprintf(record, "board %s\nmpidr", board);
     for (const struct core *core = cores; core < cores + many_cores; core++)
         fprintf(record, " 0x%" PRIx64, core->mpidr);
-    fprintf(record, "\ntells stands\n");
+    fprintf(record, "\ntells stands\ntells begins\n");
     if (PSCI_IS_UNPROVED)
         fprintf(record, "# library unproved\n");
     record_enter(cores);
@@ -74,6 +74,12 @@ void record_enter(const struct core *core) {
     if (core->entry.what == PSCI_STOP)
         say_stands(core, core->next.number);
     record_message(&core->entry.message, 0);
+}
+
+void record_begins(const struct core *core) {
+    const uint64_t *first = core->first;
+    psci_record_begins(&line, NAMED(core), first[0], first[1], first[2], first[3]);
+    say_line();
 }
 
 void record_stands(const struct core *core) { say_stands(core, core->start.number); }

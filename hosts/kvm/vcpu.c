@@ -1,4 +1,4 @@
-/* A vCPU as a core, and the filter of calls, by KVM's calls. What any monitor links: this, cores.c and record.c. */
+/* A vCPU as a core, and the filter of calls, by KVM's calls. What any monitor links: this, cores.c, cold.c and record.c. */
 #include "vmm.h"
 
 #include <errno.h>
@@ -22,7 +22,8 @@ struct kvm_smccc_filter {
 #define MPIDR ARM64_SYS_REG(3, 0, 0, 0, 5)
 #define AFFINITY 0xff00ffffff
 #define SCTLR ARM64_SYS_REG(3, 0, 1, 0, 0)
-enum { RESET_PSTATE = 0x3c5, RESET_SCTLR = 0x00c50078 };
+enum { RESET_PSTATE = 0x3c5, RESET_SCTLR = 0x00c50078, BIG_ENDIAN_DATA = 1 << 25 };
+static struct kvm_vcpu_init kind; /* of all cores */
 
 _Noreturn void fail(const char *what) {
     fprintf(stderr, "vmm: %s: %s\n", what, strerror(errno));
@@ -50,14 +51,18 @@ static void set(struct core *core, uint64_t name, uint64_t value) {
 
 uint64_t get_x(struct core *core, unsigned number) { return get(core, X(number)); }
 
+uint64_t byte_order(struct core *core) { return get(core, SCTLR) & BIG_ENDIAN_DATA; }
+
 void set_x0(struct core *core, uint64_t value) { set(core, X(0), value); }
 
-/* KVM makes the MPIDR of a vCPU's number, of which affinity field 0 gets four bits. */
-unsigned long vcpu_number(const struct core *core) { return (core->affinity >> 8) << 4 | (core->affinity & 15); }
+/* KVM makes the MPIDR of a vCPU's number, of which affinity field 0 gets four bits: no board's cluster has more cores. */
+unsigned long vcpu_number(const struct core *core) { return (core->affinity >> 8) << 4 | (core->affinity & 0xff); }
 
-void adopt(struct core *core, int vcpu, struct kvm_run *run) {
+void adopt(struct core *core, int vcpu, struct kvm_run *run, const struct kvm_vcpu_init *of) {
+    kind = *of;
     core->vcpu = vcpu;
     core->run = run;
+    reset_vcpu(core);
     core->mpidr = get(core, MPIDR) & AFFINITY;
     pthread_cond_init(&core->bell, 0);
 }
@@ -67,14 +72,35 @@ void set_state(struct core *core, uint32_t state) {
     ask(core->vcpu, KVM_SET_MP_STATE, &it, "a vCPU's state");
 }
 
-/* As a core comes out of reset. KVM_ARM_VCPU_INIT would stop its timers, and without FEAT_S2FWB unmap the memory of all
- * vCPUs. KVM_RUN begins with what is left of an access, which belongs to the life before, and would add 4 to the PC. */
-static void go_on_at(struct core *core, uint64_t address) {
+/* As a core comes out of reset, with its timers. KVM_RUN begins with what is left of an access, which belongs to the life
+ * before, and would add 4 to the PC. Without FEAT_S2FWB this unmaps the memory of all vCPUs. */
+void reset_vcpu(struct core *core) {
+    ask(core->vcpu, KVM_ARM_VCPU_INIT, &kind, "a core's reset");
     core->run->exit_reason = KVM_EXIT_UNKNOWN;
+}
+
+/* A core that is new leaves the guest behind its first instruction, if not before: then it has entered. */
+void step(struct core *core, bool is_new) {
+    struct kvm_guest_debug it = {.control = is_new ? KVM_GUESTDBG_ENABLE | KVM_GUESTDBG_SINGLESTEP : 0};
+    ask(core->vcpu, KVM_SET_GUEST_DEBUG, &it, "a step");
+    core->is_new = is_new;
+}
+
+/* Where a core was off, all is as after reset; where it slept, its timers go on. */
+static void enter_at(struct core *core, uint64_t address, uint64_t x0) {
+    const uint64_t names[] = {CORE_WORD(pc), X(0), CORE_WORD(pstate), SCTLR};
+    if (core->start.cause == PSCI_CAUSE_WAKE)
+        core->order = byte_order(core);
+    else
+        reset_vcpu(core);
     set(core, CORE_WORD(pstate), RESET_PSTATE);
-    set(core, SCTLR, RESET_SCTLR);
+    set(core, SCTLR, RESET_SCTLR | core->order);
     set(core, CORE_WORD(pc), address);
+    set_x0(core, x0);
     set_state(core, KVM_MP_STATE_RUNNABLE);
+    for (unsigned k = 0; k < 4; k++)
+        core->first[k] = get(core, names[k]);
+    step(core, true);
 }
 
 /* What the firmware answered to an entry. The boot core's first one in a life gets what Linux wants in x0: nobody has
@@ -84,8 +110,7 @@ void begin(struct core *core, const struct psci_answer *answer, uint64_t tree) {
         set_state(core, KVM_MP_STATE_RUNNABLE);
         set_x0(core, 0);
     } else if (answer->what == PSCI_ENTER) {
-        go_on_at(core, answer->address);
-        set_x0(core, core->start.cause == PSCI_CAUSE_BOOT ? tree : answer->context);
+        enter_at(core, answer->address, core->start.cause == PSCI_CAUSE_BOOT ? tree : answer->context);
     }
 }
 

@@ -18,35 +18,30 @@ static bool has_ring = true;
 static pthread_barrier_t all;
 static bool is_empty; /* no thread of a core is left */
 
-static void load_all(void) {
-    load(image, KERNEL);
-    load(tree, TREE);
-    if (initrd)
-        load(initrd, INITRD);
-}
-
 void call_back(struct core *core) {
     __atomic_store_n(&core->run->immediate_exit, 1, __ATOMIC_SEQ_CST);
     pthread_kill(core->thread, SIGUSR1);
     pthread_cond_signal(&core->bell);
 }
 
-/* All cores have left the guest. Then memory is as at the beginning, and the boot core finds its start. */
-static bool next_life(struct core *core) {
-    bool boots = core == cores;
+/* As at a cold boot, with all cores out of the guest. */
+static void begin_life(void) {
+    for (struct core *core = cores; core < cores + many_cores; core++) {
+        reset_core(core);
+        core->run->immediate_exit = 0;
+    }
+    reset_machine(image, tree, initrd);
+    life = GOES_ON;
+}
+
+static bool next_life(const struct core *core) {
     pthread_barrier_wait(&all);
     if (life >= IS_OFF) {
         __atomic_store_n(&is_empty, true, __ATOMIC_SEQ_CST);
         return false;
     }
-    core->run->immediate_exit = 0;
-    core->executes = false;
-    core->is_open = boots;
-    pthread_barrier_wait(&all);
-    if (boots) {
-        load_all();
-        life = GOES_ON;
-    }
+    if (core == cores)
+        begin_life();
     pthread_barrier_wait(&all);
     return true;
 }
@@ -64,26 +59,21 @@ static void leave_if_due(void) {
     pthread_mutex_unlock(&lock);
 }
 
-static bool is_woken(const struct kvm_run *run) {
-    return run->exit_reason == KVM_EXIT_SYSTEM_EVENT && run->system_event.type == KVM_SYSTEM_EVENT_WAKEUP;
-}
-
 /* One stay in the guest, or in a sleep that an interrupt ends: KVM waits for it, and says so. */
 static void run_once(struct core *core) {
     struct kvm_run *run = core->run;
     if (ioctl(core->vcpu, KVM_RUN, 0) < 0) {
         if (errno != EINTR && errno != EAGAIN)
             fail("KVM_RUN");
-    } else if (run->exit_reason == KVM_EXIT_HYPERCALL) {
-        if (departure.into)
-            count_call(get_x(core, 0));
-        call(core);
+        return;
+    }
+    if (departure.into && run->exit_reason == KVM_EXIT_HYPERCALL)
+        count_call(get_x(core, 0));
+    if (take_exit(core)) {
         leave_if_due();
     } else if (run->exit_reason == KVM_EXIT_MMIO) {
         access_memory(run);
-    } else if (is_woken(run)) {
-        wake(core);
-    } else if (run->exit_reason != KVM_EXIT_INTR) {
+    } else {
         fprintf(stderr, "vmm: core 0x%" PRIx64 ": exit %u\n", core->mpidr, run->exit_reason);
         exit(1);
     }
@@ -153,7 +143,7 @@ int main(int many, char **words) {
     } else {
         open_library(board);
         open_machine(has_ring);
-        load_all();
+        begin_life();
     }
     record_into(record, from ? 0 : board);
     start_cores();

@@ -33,6 +33,9 @@ struct core {
     struct psci_answer entry;
     bool is_open, executes;
     struct psci_stop how; /* of its last stop */
+    uint64_t order;       /* in which its caller has bytes, by CPU_ON */
+    uint64_t first[4];    /* PC, x0, PSTATE and SCTLR as it enters; while is_new nobody has seen that it did */
+    bool is_new;
 };
 extern struct core cores[MOST_CORES];
 extern unsigned many_cores;
@@ -41,42 +44,59 @@ extern unsigned many_cores;
 extern pthread_mutex_t lock;
 extern enum life { GOES_ON, RESTARTS, IS_OFF, LEAVES } life;
 
-/* cores.c: what the library decides. All but call and wake are called with the lock in hand. */
+/* cores.c: what the library decides. A core is reset while none runs; it enters with the lock in hand. An exit that is
+ * not the library's is left. */
 extern struct psci_guest_place guest;
 void open_library(const char *board);
+void reset_core(struct core *core);
 void enter(struct core *core, struct psci_answer *answer);
+void begun(struct core *core);
 void call(struct core *core);
 void wake(struct core *core);
+bool take_exit(struct core *core);
 bool was_refused(void);
 
 /* vcpu.c: KVM's vCPU. Its registers its own thread alone asks for. */
+struct kvm_vcpu_init;
 _Noreturn void fail(const char *what);
 int ask(int file, unsigned long request, void *argument, const char *what);
 void set_attribute(int device, uint32_t group, uint64_t number, const void *value, const char *what);
 void filter_calls(int vm);
 unsigned long vcpu_number(const struct core *core);
-void adopt(struct core *core, int vcpu, struct kvm_run *run);
+void adopt(struct core *core, int vcpu, struct kvm_run *run, const struct kvm_vcpu_init *of);
+void reset_vcpu(struct core *core);
 uint64_t get_x(struct core *core, unsigned number);
+uint64_t byte_order(struct core *core);
 void set_x0(struct core *core, uint64_t value);
 void set_state(struct core *core, uint32_t state);
+void step(struct core *core, bool is_new);
 void begin(struct core *core, const struct psci_answer *answer, uint64_t tree);
 
 /* vmm.c: takes a core out of the guest, or out of its wait; with the lock in hand. */
 void call_back(struct core *core);
 
-/* guest.c: the machine and its memory. */
+/* cold.c: a machine's interrupt controller (version 3) and memory as they are at a cold boot. The first time keeps how
+ * KVM begins, any later one fills that in again. */
+enum { MOST_INTERRUPT_WORDS = 2 + 79 * 31 + 26 * MOST_CORES };
+extern int interrupts;
+void pass_interrupts(unsigned long request, uint64_t *words);
+void reset_interrupts(void);
+void empty_memory(uint8_t *memory, size_t size, size_t image);
+
+/* guest.c: the machine and its memory. It is reset while no core runs. */
 extern int machine;
 void open_machine(bool has_ring);
-void load(const char *name, uint64_t at);
+void reset_machine(const char *image, const char *tree, const char *initrd);
 
 /* devices.c: a console and a clock with an alarm. No access asks for what waits in the ring alone. */
-void open_devices(void);
+void reset_alarm(void);
 void access_memory(struct kvm_run *run);
 
 /* record.c: docs/compare/RECORD.md, written under the lock, so its order is that of the lock. */
 void record_into(const char *name, const char *board);
 void record_call(const struct core *core, const uint64_t *x, const struct psci_answer *answer);
 void record_enter(const struct core *core);
+void record_begins(const struct core *core);
 void record_stands(const struct core *core);
 void record_message(const struct psci_frame *message, uint32_t start);
 void record_wake(const struct core *core, const struct psci_guest_turn *turn);

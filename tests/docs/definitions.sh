@@ -31,7 +31,7 @@ definitions() {
     # a comment that is gone, a definition that is named by hand and is no more, a file that the table lacks
     sed -i '/^-- the low half of a register/d' "$fresh/crates/psci_abi/specs/Calls.antt"
     sed -i 's/psci_audit `IsLegal`/psci_audit `IsLegl`/' "$fresh/docs/understand/DEFINITIONS.md"
-    cp "$fresh/crates/psci_abi/specs/"{Codes,Bits}.antt
+    cp "$fresh/crates/psci_abi/specs/"{Functions,Bits}.antt
     "$fresh/tools/definitions" --check > "$work/out" 2> "$work/err"
     echo $? > "$work/got"
     cat > "$work/lines" << 'END'

@@ -67,8 +67,9 @@ static uint32_t does(uint32_t kind, uint32_t number, uint64_t x0, uint64_t x1, u
     return psci_beside_do(&side, &(struct psci_beside_event){kind, number, {x0, x1, x2, x3}});
 }
 
-static void difference(const char *key, const char *function, const char *clause) {
+static void difference(const char *cause, const char *key, const char *function, const char *clause) {
     const struct psci_beside_difference *d = &side.difference;
+    holds(strcmp(d->cause, cause) == 0, d->cause);
     holds(strcmp(d->key, key) == 0, d->key);
     holds(function ? d->function && strcmp(d->function, function) == 0 : !d->function, "the function");
     holds(d->clause && strcmp(d->clause, clause) == 0, "the clause");
@@ -94,7 +95,7 @@ static void plays(void) {
     holds(does(PSCI_BESIDE_CALL, 0, CPU_ON, 0x101, 0x40000400, 7) == PSCI_BESIDE_ALIKE, "CPU_ON");
     holds(psci_beside_is_started(&side, 3), "core 3 is not started");
     holds(does(PSCI_BESIDE_ENTER, 3, 0, 0, 0, 0) == PSCI_BESIDE_DIFFERS, "the context id is not missed");
-    difference("entry by CPU_ON: the context id is 0", NULL, "Entering.outcome_at");
+    difference("entry by CPU_ON: the context id is 0", "entry by CPU_ON: the context id is 0", NULL, "Answer.outcome_at");
     says("enters at 0x40000400 with the context id 0x7", "enters at 0x40000400 with the context id 0x0");
     holds(side.difference.ours.context == 7 && side.difference.theirs.context == 0, "both context ids");
     psci_beside_story(&side, story, sizeof story);
@@ -102,7 +103,7 @@ static void plays(void) {
                         "call 0 0x84000003 0x101 0x40000400 0x7\ndeliver 0\ntake 0\nenter 3\n") == 0, story);
     /* the list goes on */
     holds(does(PSCI_BESIDE_CALL, 0, CPU_ON, 0x101, 0x40000400, 7) == PSCI_BESIDE_DIFFERS, "a pending core");
-    difference("CPU_ON of what is ON_PENDING: ours -5, theirs -4", "CPU_ON", "CpuOn.cpu_on");
+    difference("what is ON_PENDING is taken for ON", "CPU_ON of what is ON_PENDING: ours -5, theirs -4", "CPU_ON", "PowerCalls.cpu_on");
     holds((int32_t)side.difference.ours.x0 == -5 && (int32_t)side.difference.theirs.x0 == ALREADY_ON, "both codes");
     says("returns -5 (ON_PENDING)", "returns -4 (ALREADY_ON)");
     holds(does(PSCI_BESIDE_CALL, 0, CPU_OFF, 0, 0, 0) == PSCI_BESIDE_ALIKE, "a function that neither has");

@@ -5,7 +5,7 @@
 
 beside=hosts/beside
 # of which sources can be had: those of Debian 12, and of what is newer
-peers_beside=(kvm kvm-7.1 qemu qemu-10.0 tfa tfa-2.12 xen stm32 stm32-2025.01 optee)
+peers_beside=(kvm kvm-7.1 qemu qemu-10.0 tfa tfa-2.12 xen stm32 stm32-2025.01 mx7 optee)
 
 # build_beside PEER NAME [EDIT]: a target without a fuzzer; PROFILE is another profile
 build_beside() {
@@ -74,11 +74,7 @@ bits_beside() {
     fi
 }
 
-has_sources() {
-    local package= from= version files more here=$beside
-    . "$beside/peers/$1/build"
-    [ -d "${GUMDARTS_CACHE:-$HOME/.cache/gumdarts}${from:+/$from}/beside/$package" ]
-}
+has_sources() { "$beside/build" --offline --sources "$1" 2> /dev/null; }
 
 # a report is there from the first group on, though the process is killed; a call that never comes back is ended
 report_beside() {
@@ -87,7 +83,7 @@ report_beside() {
     build_beside own loops "$work/edit" || return
     { (ulimit -t 20; BESIDE_REPORT=$work/loops exec "$work/beside/loops" --draws 1000000) > "$work/out" 2>&1 || true; } 2> /dev/null
     if grep -q '^+ SYSTEM_OFF: ours stops, theirs does not come back$' "$work/loops" &&
-        grep -q '^  theirs: does not come back$' "$work/loops" && grep -q '^  by: SystemCalls.system_message: the core' "$work/loops"
+        grep -q '^  theirs: does not come back$' "$work/loops" && grep -q '^  by: PowerCalls.system_message: the core' "$work/loops"
     then pass; else
         fail "$beside: a port that loops"
         tail -n 5 "$work/out"
@@ -114,7 +110,8 @@ baseline_beside() {
     fi
 }
 
-# what is known hides nothing else: other states, and the same in the other mode; and what has vanished is told
+# what is known hides nothing else: other states, the same in the other mode, and what comes in other lists than before;
+# and what has vanished is told
 known_beside() {
     local call='^    obey(core, x\[0\], &answer, did);' mode
     mode='if ((uint32_t)x[0] == 0x8400000f \&\& answer.code == 0) mode = (uint32_t)x[1];'
@@ -135,6 +132,20 @@ known_beside() {
         BESIDE_REPORT=$work/vanished "$work/beside/first" --draws 100 > "$work/out" 2>&1
     if grep -q '^beside: a group has vanished: never seen$' "$work/out" && [ "$(grep -c '^- ' "$work/vanished")" = 1 ]; then pass; else
         fail "$beside: a group that has vanished is not told"
+    fi
+    counted_beside
+}
+
+# a fault that shows as a known group does, in other lists
+counted_beside() {
+    echo 's/did->context = answer->context/did->context = port.many_acks % 5 ? answer->context : 0/' > "$work/edit"
+    build_beside own first "$work/edit" || return
+    BESIDE_REPORT=$work/known "$work/beside/first" --draws 1000 > /dev/null 2>&1
+    echo 's/did->context = answer->context/did->context = port.many_acks % 4 ? answer->context : 0/' > "$work/edit"
+    REPORT=$work/known build_beside own first "$work/edit" && "$work/beside/first" --draws 1000 > "$work/out" 2>&1
+    if grep -q '^beside: a group comes in [0-9]* lists, and not [0-9]*: entry by CPU_ON: the context id is 0' "$work/out"; then pass; else
+        fail "$beside: a known group that comes in other lists is not told"
+        tail -n 3 "$work/out"
     fi
 }
 
@@ -158,7 +169,7 @@ caused_beside() {
     one_group "an upper half" "s/^struct port port;/&\\nstatic uint64_t upper[4];/
         s/$call/    if (((uint32_t)x[0] | 1 << 30) == 0xc4000003 \\&\\& answer.code == 0)\\n        upper[(x[1] >> 7 \\& 2) | (x[1] \\& 1)] = x[0] >> 30 \\& 1 ? 0 : x[2] >> 32;\\n&/
         s/$entry/&\\n    if (start.cause == PSCI_CAUSE_ON) did->address |= upper[core] << 32;\\n    upper[core] = 0;/" \
-        "entry by CPU_ON: the address keeps its upper half"
+        "an upper half counts"
 }
 
 # the same on boards of many cores, of many levels and of the extended format, with a fault for each that has
@@ -348,24 +359,29 @@ stories_beside() {
     done
 }
 
-# the lines of TF-A's source that the page for its maintainers names are those that stand there
+# the lines of a peer's source that a report names, each as FILE:LINE `text`, stand there
 lines_beside() {
-    local folder=$beside/peers/tfa-2.12 source=${GUMDARTS_CACHE:-$HOME/.cache/gumdarts}/trixie/beside/arm-trusted-firmware
-    local where text
-    grep -o 'psci_[a-z]*\.c:[0-9]*' "$folder/README.md" | sort -u > "$work/named"
-    cut -d ' ' -f 1 "$folder/lines" | sort -u | diff - "$work/named" > "$work/out" || fail "$folder/lines: $(cat "$work/out")"
-    while read -r where text; do
-        if sed -n "${where#*:}p" "$source/lib/psci/${where%:*}" | grep -qF "$text"; then pass; else
-            fail "$folder/README.md: $where is not $text"
-        fi
-    done < "$folder/lines"
+    local reports=docs/compare/reports peer page where text source here=$beside package from version files more
+    while read -r peer page; do
+        has_sources "$peer" || continue
+        package='' from=''
+        . "$beside/peers/$peer/build"
+        source=${GUMDARTS_CACHE:-$HOME/.cache/gumdarts}${from:+/$from}/beside/$package
+        tr -s '\n ' ' ' < "$reports/$page" | grep -oE '[a-z0-9_-]+\.[cS]:[0-9]+ `[^`]*`' | sort -u > "$work/named"
+        [ -s "$work/named" ] || fail "$reports/$page names no line of the sources"
+        while read -r where text; do
+            text=${text//\`/}
+            if find "$source" -name "${where%:*}" -exec sed -n -s "${where#*:}p" {} + | grep -qF -- "$text"; then pass; else
+                fail "$reports/$page: $where is not $text"
+            fi
+        done < "$work/named"
+    done < <(sed -n 's/^| \[.*\](\(.*\.md\)) | \([a-z0-9.-]*\) |.*/\2 \1/p' "$reports/README.md")
 }
 
 # what is known of TF-A 2.12, whose OS-initiated mode differs in many ways, hides no fault in that mode
 modes_beside() {
     local name edit
     has_sources tfa-2.12 || return 0
-    lines_beside
     if "$work/beside/tfa-2.12" --draws 20000 > "$work/out" 2>&1; then pass; else
         fail "$beside/peers/tfa-2.12: it differs as it is from what its report has"
         tail -n 3 "$work/out"
@@ -373,7 +389,7 @@ modes_beside() {
     while IFS='|' read -r name edit; do
         echo "$edit" > "$work/edit"
         build_beside tfa-2.12 faulty-modes "$work/edit" || continue
-        { "$work/beside/faulty-modes" --draws 300000 > "$work/out" 2>&1 || true; } 2> /dev/null
+        { "$work/beside/faulty-modes" --draws 100000 > "$work/out" 2>&1 || true; } 2> /dev/null
         if grep -q '^beside: a new group' "$work/out"; then pass; else
             fail "$beside/peers/tfa-2.12: what is known hides this: $name"
         fi
@@ -409,6 +425,7 @@ in_one_process() {
     machines_beside
     compiled_beside
     stories_beside
+    lines_beside
     modes_beside
     moments_beside
 }

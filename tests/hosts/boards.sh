@@ -1,7 +1,7 @@
 # The boards of the port at EL3 (hosts/el3/boards), sourced by ./test after tests/hosts/el3.sh: what is stored of each is that of
 # its file, each is built, Linux and the payload on each.
 
-places=(sbsa-ref zcu102 raspi3b raspi3ap)
+places=(sbsa-ref zcu102 raspi3b raspi3ap versal)
 # by a QEMU that Debian 12 does not have
 newer=(raspi4b ast2700)
 
@@ -21,6 +21,7 @@ el3_boards() {
     for name in virt "${places[@]}" "${newer[@]}"; do
         if board_compiles "$name" > "$work/out" 2>&1; then pass; else fail "hosts/el3/boards/$name"; cat "$work/out"; fi
     done
+    if board_compiles sbsa-ref 1 > "$work/out" 2>&1; then pass; else fail "one core of sbsa-ref"; cat "$work/out"; fi
     if board_compiles sbsa-ref "((8 8 8 8) (8 8 8 8))" > "$work/out" 2>&1; then pass; else fail "64 cores of sbsa-ref"; cat "$work/out"; fi
     sed -i 's/^#define STACKS_END .*/#define STACKS_END (STACKS + 4 * STACK)/' "$fresh/boards/virt/place.h"
     make -s -C "$fresh" TOP="$PWD" OUT="$work/stacks" TABLE=machines/four.h GIC=2 clean objects > "$work/out" 2>&1
@@ -60,6 +61,12 @@ el3_live_raspi3b() { on_board raspi3b; }
 el3_live_raspi3ap() { on_board raspi3ap; }
 el3_live_raspi4b() { by_newer_qemu on_board raspi4b; }
 el3_live_ast2700() { by_newer_qemu on_board ast2700; }
+# of its cores QEMU starts one, and it resets none
+el3_live_versal() {
+    local took
+    can_boot || return
+    live versal --board versal idle suspend-5
+}
 el3_live_newer() { by_newer_qemu newer_processors; }
 newer_processors() {
     local took name

@@ -253,7 +253,7 @@ proving_lib() {
     for machine in "" x86_64 aarch64; do
         # shellcheck disable=SC2086
         lib_of "$kit" "$fresh" ${machine:+--target $machine}
-        expect "./psci prove lib for ${machine:-no machine}" 0 "psci: built; the library is in out/lib"
+        expect "./psci prove lib for ${machine:-no machine}" 0 "psci: built; the library is in out/lib/${machine:-x86_64}"
     done
     printf '%s\n' aarch64/{SHA256SUMS,libpsci_ffi-strict-align.a,libpsci_ffi.a} \
         x86_64/{SHA256SUMS,libpsci_ffi.a} > "$work/lines"
@@ -371,7 +371,7 @@ languages() {
 # reads FOLDER HEADER WORD..: a compiler takes a header of this folder that stands alone, and one that stands there twice
 reads() {
     printf '#include "%s"\n' "$2" "$2" > "$work/alone.c"
-    "${@:3}" -Wall -Wextra -pedantic -Werror -fsyntax-only "-I$1" "$work/alone.c" 2> "$work/err"
+    "${@:3}" -Wall -Wextra -Wshadow -pedantic -Werror -fsyntax-only "-I$1" "$work/alone.c" 2> "$work/err"
 }
 
 # each header alone, in each language of each compiler that is here; a size that is another one is seen in each of them,
@@ -506,7 +506,7 @@ c_sides() {
         's/psci_control_waited(&control, core,/psci_control_waited(\&control, core ^ 1,/' 's/psci_port_rises(side, started)/psci_port_rises(side, false)/' \
         's/psci_control_reset(&control, core, &orders);/psci_control_wake(\&control, core, \&orders);/' \
         's/number, &last\[number\], &message);/number, \&last[0], \&message);/' \
-        's/psci_control_starts(&control, core) ==/psci_control_starts(\&control, 0) ==/'; do
+        's/psci_control_starts(&control, core) ==/psci_control_starts(\&control, 0) ==/' 's/^    wake(core);$/;/'; do
         sed "$edit" tests/hosts/programs/sides.c > "$work/unheeded.c"
         if cmp -s tests/hosts/programs/sides.c "$work/unheeded.c" ||
             ! cc "${flags[@]}" -w -o "$work/unheeded" "$work/unheeded.c" hosts/pool.c "$archive" 2> "$work/err"; then
@@ -525,6 +525,11 @@ c_lines() {
     has_cc "the lines of a record" || return
     build_c lines tests/hosts/programs/lines.c || return
     tested "$work/lines"
+    "$work/lines" 1 20000 > "$work/drawn"
+    if tests/hosts/lines-read < "$work/drawn" | grep -q "^20000 lines "; then pass; else fail "tests/hosts/lines-read"; fi
+    for edit in 's/^deliver 00 /deliver  /' 's/^take 00 /take  /' '/ -> /s/started [0-9]*$/started 1/'; do
+        if sed "$edit" "$work/drawn" | tests/hosts/lines-read > "$work/out" 2>&1; then fail "tests/hosts/lines-read, $edit"; else pass; fi
+    done
     for edit in 's/{.is_mpidr = true, .word = 0x300}/{.word = 0x300}/' 's/&own, 0xc4000003, 0x300,/\&own, 0xc4000003, 0x301,/' \
         's/what = PSCI_STOP,/what = PSCI_RESUME,/' 's/0x40201000, 7, 0x3c9/7, 0x40201000, 0x3c9/' 's/start, PSCI_CTL_START, &ack/start, PSCI_CTL_START, \&none/' \
         's/ack.bytes, PSCI_OLD/ack.bytes, PSCI_USED/' 's/PSCI_CTL_START, 2);/PSCI_CTL_START, 1);/' 's/{.next = PSCI_PORT_LEAVES, .x0 = ~1ull/{.next = PSCI_PORT_LEAVES, .x0 = 1ull/'; do

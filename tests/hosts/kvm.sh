@@ -29,6 +29,10 @@ kvm_turns() {
         compared 0 "safe after each of them" "$work/run.record"
     done
     if grep -q "^enter 0x0 3 " "$work/run.record"; then pass; else fail "turns: too few lives"; fi
+    sed '/^begins 0x101 /d' "$work/run.record" > "$work/unbegun.record"
+    compared 6 "in no run: it has not begun" "$work/unbegun.record"
+    sed '/^enter 0x[1-9]/q' "$work/run.record" > "$work/unbegun.record"
+    compared 7 "started and never entered: core" "$work/unbegun.record"
     for fault in runs-on end-unseen; do
         planted kvm "$fault" "$copy" && built_turns "$copy" || fail "turns: $fault"
         if "$work/turns" 1 3000 "$work/run.record" 2> "$work/err" || ! grep -q "a call was refused: 19" "$work/err"
@@ -36,18 +40,42 @@ kvm_turns() {
     done
 }
 
-# each fault still fits the monitor's sources, and the list says who tells it, as the page does. What any monitor links is
-# as small as the page says
+# each fault still fits the monitor's sources, and the list says who tells it. What any monitor links is as small as the
+# page says
 kvm_faults() {
     local name teller
     has_python "faults of hosts/kvm" || return
     while IFS='|' read -r name teller _; do
-        if planted kvm "$name" "$work/kvm" && grep -q "^| \`$name\`: .* | .*${teller:-nobody}" hosts/kvm/README.md
-        then pass; else fail "hosts/kvm/faults.edits: $name"; fi
+        if planted kvm "$name" "$work/kvm" && [ -n "$teller" ]; then pass; else fail "hosts/kvm/faults.edits: $name"; fi
     done < <(hosts/plant --told hosts/kvm/faults.edits)
-    if [ "$(cat hosts/kvm/{cores,vcpu,record}.c hosts/kvm/vmm.h | wc -l)" -le 450 ] &&
-        [ "$(cat hosts/kvm/kvmtool/{psci.c,kvmtool.patch} | wc -l)" = 235 ]
+    if [ "$(cat hosts/kvm/{cold,cores,vcpu,record}.c hosts/kvm/vmm.h | wc -l)" -le 610 ] &&
+        [ "$(cat hosts/kvm/kvmtool/{psci.c,kvmtool.patch} | wc -l)" = 260 ]
     then pass; else fail "the lines of hosts/kvm"; fi
+}
+
+# has_cargo: whether there is what the crate for Rust wants, which is skipped if not
+has_cargo() {
+    local have
+    have=$(cargo --version 2> /dev/null | cut -d ' ' -f 2)
+    [ "$(printf '%s\n' 1.78 "$have" | sort -V | head -n 1)" = 1.78 ] || { skip "the crate for Rust" "cargo of 1.78"; false; }
+}
+
+# vcpu_enters FOLDER WORD..: what the example of the crate in this folder prints, with these words of `env`
+vcpu_enters() {
+    env "${@:2}" CARGO_TARGET_DIR="$work/rust" timeout "$patience" \
+        cargo run -q --offline --manifest-path "$1/Cargo.toml" --example vcpu > "$work/out" 2>&1 || fail "$1: the example vcpu"
+    printf '%s\n' "core 0 enters at 0x40000000 with 0x0" "core 1 enters at 0x40001000 with 0x7" > "$work/lines"
+    answers "the example vcpu in $1"
+}
+
+# the crate for Rust: bindings beside the headers, stored scripts, and guests that move
+rust_crate() {
+    has_cargo && has_cc "the crate for Rust" || return
+    if PSCI_LIB=$(realpath "$(dirname "$archive")") CARGO_TARGET_DIR=$work/rust timeout "$patience" \
+        cargo test -q --offline --manifest-path hosts/rust/Cargo.toml > "$work/out" 2>&1 &&
+        [ "$(grep -c "^test result: ok. [1-9]" "$work/out")" = 3 ]
+    then pass; else fail "cargo test in hosts/rust"; tail -n 20 "$work/out"; fi
+    vcpu_enters hosts/rust PSCI_LIB="$(realpath "$(dirname "$archive")")"
 }
 
 # guest_of WORD..: what hosts/kvm/run ends with. A guest that is to move has
@@ -83,14 +111,16 @@ linux_agrees() {
 kvm_kvmtool() {
     can_boot && [ -e "$cache/trixie/packages/bin/busybox" ] || { skip "guests of kvmtool" "$cache/trixie"; return; }
     [ -e "$cache/kvmtool/source/Makefile" ] || { skip "guests of kvmtool" "source of it"; return; }
-    lists_agree ours-on-kvmtool --kvmtool -- lives off on-race standby system-suspend
+    lists_agree ours-on-kvmtool --kvmtool -- lives off on-race standby system-suspend tests/program/lists/stale.list
     linux_agrees --kvmtool each
 }
 
-# lists and Linux, which go on in another monitor in mid-run: a core is off, the system is suspended, or all are on
+# lists and Linux, which go on in another monitor in mid-run: a core is off, it has been started and has not begun, the
+# system is suspended, or all are on
 kvm_moves() {
     can_boot && [ -e "$cache/trixie/packages/bin/busybox" ] || { skip "guests of KVM that move" "$cache/trixie"; return; }
-    lists_agree ours-on-kvm --move-after 40 -- off storm-1
+    lists_agree ours-on-kvm --move-after 40 -- storm-1
+    lists_agree ours-on-kvm --move-call 0xc4000003 -- off tests/program/lists/stale.list
     lists_agree ours-on-kvm --move-call 0x84000000 -- tests/program/lists/moves.list
     linux_agrees --move-at "guest: up" --move-call 0xc400000e each idle suspend-5
     linux_agrees --move-call 0x84000002 each
@@ -100,9 +130,14 @@ kvm_moves() {
 kvm_live() {
     local faults fault took words=(each idle suspend-5) begun=$SECONDS
     local lists=(affinity down-01 lives mode off on-race on-twice refusals standby storm-1 storm-down-1 system-suspend
-        tests/program/lists/second-life.list)
+        tests/program/lists/*.list)
     can_boot && [ -e "$cache/trixie/packages/bin/busybox" ] || { skip "guests of KVM" "$cache/trixie"; return; }
     lists_agree ours-on-kvm -- "${lists[@]}"
+    fresh_guest
+    guest_of --seconds "$patience" --cores 2 --kernel "$work/fresh" || fail "hosts/kvm/run --kernel fresh"
+    if [ "$(grep "^fresh: " "$work/out")" = "fresh: over" ]; then pass; else
+        fail "a core or a life of hosts/kvm is not new: $(grep "^fresh: " "$work/out")"
+    fi
     if [ -e "$cache/trixie/kexec/fetched" ]; then words+=(kexec each); else
         skip "kexec of a guest of KVM" "$cache/trixie/kexec"
     fi
@@ -114,12 +149,24 @@ kvm_live() {
     kvm_fault "${fault[@]}"
 }
 
+# fresh_guest: $work/fresh gets a guest that looks whether its cores and lives are new
+fresh_guest() {
+    aarch64-linux-gnu-gcc -O1 -std=gnu11 -Wall -Wextra -Werror -ffreestanding -nostdlib -static -fno-pic -mgeneral-regs-only \
+        -mstrict-align -fno-stack-protector -Wl,-Ttext=0x40200000,-e,0x40200000,--build-id=none,--no-warn-rwx-segments \
+        -o "$work/fresh.elf" tests/hosts/programs/fresh.c > "$work/err" 2>&1 &&
+        aarch64-linux-gnu-objcopy -O binary "$work/fresh.elf" "$work/fresh" || fail "tests/hosts/programs/fresh.c"
+}
+
 # kvm_fault NAME TELLER PLAYED TEXT: what the teller says, where this fault is planted
 kvm_fault() {
     local port played
     read -ra played <<< "$3"
     rm -rf "$work/faulty"
-    [ "$2" = Linux ] || played=(--lists "$work/faulty" "${played[@]}")
+    case $2 in
+        Linux) ;;
+        guest) played=(--cores 2 --kernel "$work/fresh") ;;
+        *) played=(--lists "$work/faulty" "${played[@]}") ;;
+    esac
     guest_of --seconds $((40 + took)) --fault "$1" "${played[@]}" || true
     case $2 in
         compare) for port in "$work"/faulty/*.port; do ./psci compare --quick "$port"; done ;;

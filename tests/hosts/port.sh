@@ -38,13 +38,15 @@ port_heaps() {
 }
 
 # as_threads KIND MACHINE SEED: the port, in which FAULT may be planted, as a drawn run, and what is found of it is in
-# $work/out. `threads` are watched by ThreadSanitizer, in two lives and one more after a press of the reset button; a
+# $work/out. `threads` are watched by ThreadSanitizer, in two lives and one more after a press of the reset button, `narrow`
+# with rings of two frames, too; a
 # `record` is held to the program; in one that is `lossy` each second frame is lost. `monitors` and `monitors-record` have
 # the power controller in the monitors. Some 5 seconds each
 as_threads() {
     local status=0 compared=0 kind=threads flags=(-DRECORD) calls=(400 2 0)
     [[ $1 != monitors* ]] || kind=monitors
-    [ "$1" != $kind ] || flags=("${race[@]}") calls=(500 2 1)
+    [ "$1" != narrow ] || kind=narrow
+    [ "$1" != $kind ] || flags+=("${race[@]}") calls=(500 2 1)
     [ "$1" != lossy ] || { flags+=(-DLOSE=2) calls=(400 3 0); }
     TABLE=hosts/el3/machines/$2.h port_built "$work/port" $kind "${flags[@]}" || return
     TSAN_OPTIONS=exitcode=66 timeout "$patience" setarch -R "$work/port" "$3" "${calls[@]}" "$work/port.told" \
@@ -52,6 +54,8 @@ as_threads() {
     [ "$1" != $kind ] || return $status
     grep -v '^#' "$work/port.told" > "$work/port.record"
     ./psci compare --machine "hosts/el3/machines/$2.machine" "$work/port.record" >> "$work/out" 2>&1 || compared=$?
+    awk '/-> return|^poll |-> resume/ { returns++ } /^leaves / { returns-- } END { exit returns > 100 }' "$work/port.record" ||
+        { echo "calls that return without a line" >> "$work/out"; status=1; }
     # core 0 ends a life once it has made its calls, whichever core is on the way to its entry then
     [ $compared != 7 ] || ! tail -n 1 "$work/out" | grep "^started and never entered: " > /dev/null || compared=0
     [ $status != 0 ] || status=$compared
@@ -63,7 +67,7 @@ port_threads() {
     local way
     has_cc "hosts/el3 as threads" || return
     for way in "threads four 1" "threads four 2" "threads sixteen 3" "record four 4" "lossy four 5" \
-        "record affinity-1 6" "monitors four 7" "monitors sixteen 8" "monitors-record four 9"; do
+        "record affinity-1 6" "monitors four 7" "monitors sixteen 8" "monitors-record four 9" "narrow four 10"; do
         # shellcheck disable=SC2086
         if as_threads $way; then pass; else
             fail "hosts/el3 as threads: $way"
@@ -142,7 +146,8 @@ seen_by() {
 }
 
 # each planted fault is seen by the check that its line names, and says what the line has; each has a line, and stands in
-# the tables of the page. Those of lists, `linux` and boards are tried where QEMU is, those of `silicon` by el3_silicon
+# the tables of the page. Those of lists, `linux`, boards and a harsh machine are tried where QEMU is, those of `silicon` by
+# el3_silicon
 port_faults() {
     local name check machine text
     has_cc "faults of hosts/el3" && has_python "faults of hosts/el3" || return
@@ -150,7 +155,7 @@ port_faults() {
         if [ -n "$check" ] && grep -qF "\`$name\`" hosts/el3/README.md; then pass; else
             fail "hosts/el3/faults.edits says of $name nobody who tells it, or hosts/el3/README.md does not have it"
         fi
-        [[ " heaps door gate threads monitors record lossy eva " == *" $check "* ]] || continue
+        [[ " heaps door gate threads narrow monitors record lossy eva " == *" $check "* ]] || continue
         [ "$check" != eva ] || command -v frama-c > /dev/null || { skip "the fault $name" frama-c; continue; }
         export FAULT=$name
         if seen_by "$check" "$machine"; then fail "$name is not seen by $check"

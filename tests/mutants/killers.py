@@ -35,7 +35,7 @@ CACHE = f"{os.environ.get('XDG_CACHE_HOME') or os.path.expanduser('~/.cache')}/g
 THREADS = [("threads", "--seed", str(seed), "--count", "200") for seed in range(1, 6)]
 # tests of the built program as a whole, which are functions of tests/program/*.sh
 WHOLE = ("command_lines", "streams", "slow_pipe", "by_hand", "storms", "kept_storms", "core_threads",
-         "thread_counts", "kept_threads", "no_threads", "storm_counts", "little_memory", "long_scripts")
+         "thread_counts", "kept_threads", "frames_travel", "no_threads", "storm_counts", "little_memory", "long_scripts")
 ALONE = """
 top=$1 program=$2 work=$3 patience=60 failed=0
 cd "$top" || exit 2

@@ -53,7 +53,7 @@ psci: line 3, column 1: unknown word 'halt': expected one of call, enter, wake, 
     processor_time
     begun=$spent
     front_of . --unproved replay
-    expect "./psci --unproved replay, the second time" 3 "$unproved"$'\n'"$fault"
+    expect "./psci --unproved replay, the second time" 3 "$fault"
     answers "./psci --unproved replay, the second time"
     # a section that clang makes where it checks each access, and what it calls there
     if readelf -SsW "$XDG_CACHE_HOME"/gumdarts/unproved/psci_replay-* | grep asan_ > /dev/null; then
@@ -65,8 +65,9 @@ psci: line 3, column 1: unknown word 'halt': expected one of call, enter, wake, 
     [ $((spent - begun)) -le $((first / 10)) ] || fail "the second unproved run took $((spent - begun)) hundredths of a \
 second of a processor, and the first one, which compiles, $first"
     touch "$fresh/crates/psci_replay/src/main.rt"
+    touch -d "25 hours ago" "$XDG_CACHE_HOME/gumdarts/unproved/said"
     front_of "$fresh" replay
-    expect "./psci replay of the same sources" 3 "$unproved"$'\n'"$fault"
+    expect "./psci replay of the same sources, a day later" 3 "$unproved"$'\n'"$fault"
     echo "// Nothing." >> "$fresh/crates/psci_replay/src/main.rt"
     # other sources are compiled again, and on a terminal stands how far that is
     if tests/program/progress "$work/progress" fresh "$fresh/psci" > "$work/out" 2>&1; then pass; else
@@ -117,6 +118,7 @@ served() {
         fail "./psci try in a fresh clone"
         tail -n 20 "$work/out"
     fi
+    rm -f "$room/home/.cache/gumdarts/unproved/said"
     if tests/program/served "$program" "$room" planted > "$work/out" 2>&1; then
         fail "tests/program/served lets a limit of memory through that no program fits"
     elif grep -q "the program failed, not the script" "$work/out"; then pass; else
@@ -279,6 +281,9 @@ files_and_streams() {
     echo $? > "$work/got"
     expect "./psci storm --keep in no folder" 4 \
         "write fault"$'\n'"psci: --keep $work/none/kept was not written completely: No such file or directory"
+    { ./psci storm --seed 1 --count 1 --keep "$work/none/kept" 2> "$work/err"; echo $? > "$work/got"; } | cat > "$work/out"
+    expect "./psci storm --keep in no folder, into a pipe" 4 \
+        "write fault"$'\n'"psci: --keep $work/none/kept was not written completely: No such file or directory"
     for words in "draw examples/late-acknowledgement.psci" "draw --page examples/late-acknowledgement.psci" \
         "storm --seeds 1..3 --count 5" "show --changes examples/late-acknowledgement.psci" --help "help draw" \
         "replay examples/late-acknowledgement.psci" "plain examples/late-acknowledgement.psci" \
@@ -308,7 +313,6 @@ lacking() {
     ln -s "$(python3 -c 'import sys; print(sys.executable)')" "$room/python3"
     PATH=$room ./psci --unproved replay examples/lost-message.psci > "$work/out" 2> "$work/err"
     echo $? > "$work/got"
-    sed -i 1d "$work/err"
     expect "./psci without rt" 1 "psci: no proved program is here, and building one needs the Rattle kit's command rt \
 on the path. README says what works without the kit"
     XDG_CACHE_HOME=/dev/null/cache ./psci --unproved replay examples/lost-message.psci > "$work/out" 2> "$work/err"

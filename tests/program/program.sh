@@ -424,6 +424,40 @@ kept_threads() {
     fi
 }
 
+# how frames travel between threads, as kept runs of 20 seeds tell. The last line of the awk program: messages that were
+# never delivered, that came again, that came after a later one; acknowledgements of which fewer were taken than made, and
+# more, those that came after a later one, old ones, used ones; resets. Each has a third of what such runs have, or less
+frames_travel() {
+    local seed
+    : > "$work/travels"
+    for seed in $(seq 20); do
+        run threads --seed "$seed" --count 200 --keep "$work/kept"
+        expect "threads of seed $seed" 0
+        [ "$(cat "$work/got")" = 0 ] || return
+        adds_up "threads of seed $seed"
+        run replay < "$work/kept"
+        paste <(tail -n +2 "$work/kept") "$work/out" | awk -F '\t' '
+            { split($1, event, " "); split($2, said, " "); number = event[2] + 0 }
+            $2 ~ / #[0-9]+ (down|start|off|reset) / { unsent++ }
+            event[1] == "deliver" { if (number in come) again++; else { unsent--; late += number < last }
+                come[number]; if (number > last) last = number }
+            said[2] == "ack" { it = number " " said[5] " " said[6]; ack[++acks] = it; made[it]++; since[it] = acks }
+            event[1] == "take" { it = ack[number + 1]; took[it]++; takes[++count] = it }
+            said[2] ~ /^(old|used)$/ { uses[said[2]]++ }
+            event[1] == "reset" { resets++ }
+            END { for (it in made) if (made[it] > took[it]) lost += made[it] - took[it]; else twice += took[it] - made[it]
+                for (at = 1; at <= count; at++) { it = takes[at]
+                    if (made[it] == 1 && took[it] == 1) { behind += since[it] < newest; if (since[it] > newest) newest = since[it] } }
+                print unsent, again, late, lost, twice, behind, uses["old"], uses["used"], resets }' OFS=, >> "$work/travels"
+    done
+    if awk -F , '{ for (at = 1; at <= 9; at++) sums[at] += $at }
+        END { split("200 250 200 300 40 50 400 300 50", floors, " ")
+            for (at = 1; at <= 9; at++) bad += sums[at] < floors[at]; exit bad > 0 }' "$work/travels"; then pass; else
+        fail "how frames travel"
+        head -n 5 "$work/travels"
+    fi
+}
+
 # threads that can't be made are a fault of its own, and soon: for a user who may have no process more,
 # and where memory has no room for their stacks, or for all but some of them; those that were made wait
 # asleep meanwhile, and all together take less than a second of a processor

@@ -195,6 +195,11 @@ completed() {
 ./psci sweep storm --engine p|parallel
 ./psci prove l|lib
 ./psci prove lib --target a|aarch64
+./psci prove all l|
+./psci show --color = a|auto always
+./psci sweep storm --p|--program
+./psci sweep storm --k|
+./psci sweep --|--help
 EOF
     by_fish
     by_zsh
@@ -212,7 +217,7 @@ by_fish() {
     while IFS='|' read -r line wanted; do
         HOME=$work fish --no-config -c 'source completions/psci.fish; complete -C $argv[1]' "$line" 2> "$work/err" |
             cut -f 1 | LC_ALL=C sort | tr '\n' ' ' > "$work/out"
-        echo "$wanted " | tr -d '\n' > "$work/lines"
+        printf '%s' "${wanted:+$wanted }" > "$work/lines"
         answers "completion of $line by fish"
     done << 'EOF'
 psci s|show storm sweep
@@ -221,6 +226,11 @@ psci show --color a|always auto
 psci replay LIC|LICENSE
 psci replay --machine LIC|LICENSE
 psci prove l|lib
+psci prove all l|
+psci sweep storm --p|--program
+psci sweep storm --k|
+psci --unproved s|show storm sweep
+psci help st|storm
 EOF
 }
 
@@ -238,5 +248,9 @@ psci storm --keep LIC|psci storm --keep LICENSE
 psci show --color=ne|psci show --color=never 
 psci replay LIC|psci replay LICENSE 
 psci draw --pa|psci draw --page 
+psci storm --kee|psci storm --keep=
+psci sweep storm --mod|psci sweep storm --model 
+psci sweep storm --kee|psci sweep storm --kee
+psci prove lib --tar|psci prove lib --target=
 EOF
 }

@@ -125,7 +125,7 @@ def spoiled(room):
 
 def exchanged(room):
     """A program that is exchanged in mid sweep is noticed, by the chunk that it answered and by each report; what was
-    finished before stays, and once the program is there again the sweep goes on."""
+    finished before stays, and once the program is there again the sweep goes on. So is one that is back by then."""
     other = room.path("another-program")
     with open(other, "w", encoding="utf-8") as file:
         file.write("#!/bin/sh\necho storm events 9 sent 1 quiet 0\necho enter enter 9\n")
@@ -145,6 +145,11 @@ def exchanged(room):
         wants(status == 4 and "has changed since the sweep began" in said, f"the report ends with {status}: {said}")
         shutil.copy(room.path(f"{out}/program.was"), room.path(f"{out}/program"))
         room.is_good(room.sweep(out, *more, program=program))
+    program = room.wrapped('[ -e "$flag" ] || { : > "$flag"; cp -p "$0" "$0.new"; mv "$0.new" "$0"; }')
+    status, text, said = room.sweep("back", "--chunk", "24", "--jobs", "1", program=program)
+    wants(status == 7 and "was exchanged while this chunk ran, and is back" in said,
+          f"a program is exchanged, and is back: {status}: {text}{said}")
+    room.is_good(room.sweep("back", "--chunk", "24", "--jobs", "1", program=program))
 
 
 def nothing(room):

@@ -1,5 +1,6 @@
 """Stories of tests/program/swept about what a sweep says as it goes, and about its page."""
 import os
+import pty
 import re
 import subprocess
 import threading
@@ -60,6 +61,40 @@ def told(room):
     wants("1 chunks are not finished, seeds 13..15; " in "".join(said[seen_all:]), f"it says not what is left: {said}")
 
 
+# a Slurm that holds the tasks of its first job for a minute, or until it is told to release them
+HOLDING = {
+    "scontrol": '[ "$1 $2" != "release jobname=$(cat {name})" ] || : > {released}',
+    "squeue": '[ -e {released} ] || echo "PENDING launch failed requeued held"',
+    "sbatch": """for it; do case $it in --job-name=*) echo "${{it#*=}}" > {name} ;; --array=0-*) last=${{it##*-}} ;; esac; done
+cat > {job}
+for wait in $(seq 600); do [ -e {released} ] || sleep 0.1; done
+for task in $(seq 0 $last); do SLURM_ARRAY_TASK_ID=$task sh {job}; done"""}
+
+
+def held_task(room):
+    """Also on a terminal a sweep says what lets a task go on that Slurm holds, and goes on by that."""
+    os.mkdir(room.path("bin"))
+    for name, text in HOLDING.items():
+        with open(room.path(f"bin/{name}"), "w", encoding="utf-8", opener=lambda *it: os.open(*it, 0o755)) as file:
+            file.write("#!/bin/sh\n" + text.format(**{it: room.path(it) for it in ("name", "released", "job")}) + "\n")
+    path = {**os.environ, "PATH": f"{room.path('bin')}:{os.environ['PATH']}"}
+    ours, theirs = pty.openpty()
+    process = subprocess.Popen(room.words("queued", "--engine", "slurm", "--chunk", "12"), stderr=theirs, env=path,
+                               stdout=subprocess.DEVNULL, stdin=subprocess.DEVNULL)
+    os.close(theirs)
+    seen, remedy = b"", None
+    try:
+        while some := os.read(ours, 4096):
+            seen += some
+            if not remedy and (remedy := re.search(b"a task is held, and waits for `(.*)`", seen)):
+                subprocess.run(remedy[1].decode(), shell=True, env=path, check=True)
+    except OSError:
+        # a terminal without writers
+        pass
+    os.close(ours)
+    wants(process.wait() == 0 and remedy and seen.count(b"is held") == 1, f"status {process.returncode}: it says {seen!r}")
+
+
 def page(room):
     """The page of a sweep has what the report says, when and where it ran, what hinders it, and how to go on; what a
     program says is text there."""
@@ -117,4 +152,4 @@ def seen(room):
         it.close()
 
 
-TOLD = {it.__name__: it for it in (told, page, seen)}
+TOLD = {it.__name__: it for it in (told, held_task, page, seen)}

@@ -5,7 +5,6 @@ import re
 import subprocess
 
 import refusers
-import refuted
 import repo
 import together
 
@@ -20,78 +19,6 @@ def said(folder, *words):
 def listed(names, most=3):
     more = f" and {len(names) - most} more" if names[most:] else ""
     return ", ".join(names[:most]) + more
-
-
-def checked(crate, *words):
-    """What `rt check` writes of the crate, and why it judged nothing, where that is so."""
-    status, text = said(crate, "rt", "check", "--jobs", "1", *words)
-    unread = re.search(r"^(?:\./)?specs/\S+: error: .*$", text, re.M)
-    if unread:
-        return text, f"BAD CASE: the definition does not compile: {unread[0][:200]}"
-    if status and not re.search(r"^(logic=not-proved|only=)", text, re.M):
-        return text, f"NOT TRIED: rt check ended with {status}: {text[-400:]}"
-    return text, None
-
-
-def shown_false(crate, found, edit, words):
-    """Yields which theorems and clauses of laws are shown to be false, by their negations on the copy."""
-    negations = refuted.Negations(crate, edit, [f"use {it}" for it in edit.words.get("use", [])])
-    for _, it in found.open:
-        negations.add(it)
-    laws = refuted.laws_of(crate, edit)
-    for name in laws:
-        negations.add_law(name, laws[name], f"proofs/{refuted.LAWS}.antt")
-    after = negations.written()
-    if laws:
-        lib = after.get("proofs/Lib.antt") or repo.text_of(f"{crate}/proofs/Lib.antt")
-        after["proofs/Lib.antt"] = lib + f"mod {refuted.LAWS}\n"
-    before = {path: repo.text_of(f"{crate}/{path}") for path in after
-              if os.path.exists(f"{crate}/{path}")}
-    repo.write(crate, after)
-    text, _ = checked(crate, *words)
-    repo.write(crate, before)
-    for path in after.keys() - before.keys():
-        os.remove(f"{crate}/{path}")
-    shown = negations.shown(text)
-    for kind, it in found.open:
-        if (it.path, it.name) in shown:
-            yield f"{kind} {it}, whose negation is proved"
-    for path, name in shown:
-        if name.startswith("law_"):
-            yield f"law {name}, whose negation is proved"
-
-
-def refused_by(crate, edit, words):
-    """What refuses the crate, in which the case is made, and what is to be said where nothing does; by
-    a check with these words."""
-    text, hindered = checked(crate, *words)
-    if hindered:
-        return [], hindered
-    found = refusers.Refusals(crate, text)
-    counts = found.counts
-    if not counts and (found.open or found.laws):
-        counts = shown_false(crate, found, edit, words)
-    counts = list(dict.fromkeys(counts))
-    if found.open or found.laws:
-        lost = listed([*(f"{kind} {it}" for kind, it in found.open), *found.laws], 4)
-        return counts, f"NOT REFUSED: what broke may hold, as nothing shows it to be false: {lost}"
-    if found.broken:
-        broken = listed(found.broken, 4)
-        return counts, f"NOT REFUSED: script broke, and nothing that counts: {broken}"
-    return counts, "NOT REFUSED: all is proved"
-
-
-def judged(crate, edit, is_quick):
-    """Whether the crate, in which the case is made, is refused, and what is to be said of it. The files that
-    the case names are asked first, then all files of examples, and then the whole crate."""
-    for files in rounds(crate, edit):
-        bring(crate, files)
-        counts, what = refused_by(crate, edit, ["--only", EXAMPLES])
-        if counts or what.startswith(("BAD", "NOT TRIED")):
-            break
-    if not counts and not is_quick and not what.startswith(("BAD", "NOT TRIED")):
-        counts, what = refused_by(crate, edit, [])
-    return bool(counts), f"refused by {listed(counts)}" if counts else what
 
 
 def rounds(crate, edit):
@@ -149,12 +76,11 @@ def name_libraries(folder, text):
 def tried(folder, cases_of, is_quick=False):
     """Yields of each case, by its name and file, whether the crate in the folder is refused with it, and
     what is to be said of it."""
-    beside = os.path.dirname(next(iter(cases_of.values())))
-    hindered, edits = ready(folder, beside), {}
+    hindered, edits = ready(folder, os.path.dirname(next(iter(cases_of.values())))), {}
     for name, path in cases_of.items():
         try:
             edit = repo.read_edit(path)
-            edits[name] = edit, *repo.edited(edit.changes, folder)
+            edits[name] = edit, repo.edited(edit.changes, folder)[1]
         except repo.BadEdit as error:
             yield name, False, f"BAD CASE: {error}"
     if hindered:
@@ -162,14 +88,6 @@ def tried(folder, cases_of, is_quick=False):
         return
     for name, counts, what in together_tried(folder, edits, is_quick):
         yield name, bool(counts), f"refused by {listed(counts)}" if counts else what
-        del edits[name]
-    for name, (edit, before, after) in edits.items():
-        repo.write(folder, after)
-        try:
-            is_refused, what = judged(folder, edit, is_quick)
-        finally:
-            repo.write(folder, before)
-        yield name, is_refused, what
 
 
 # how many lines of copies one check reads, beyond those of one case
@@ -177,15 +95,12 @@ AT_ONCE = 16000
 
 
 def together_tried(folder, edits, is_quick):
-    """Yields of the cases that are asked in common what refuses them, or what is to be said where nothing
-    does."""
-    modules, waiting, lost_of = together.Modules(folder), [], {}
+    """Yields of the cases what refuses them, or what is to be said where nothing does."""
+    modules, waiting, lost_of = together.Modules(folder), [], {name: [] for name in edits}
     others = [] if is_quick else together.with_theorems(folder, modules)
-    for number, (name, (edit, _, after)) in enumerate(edits.items()):
-        if all(path in modules.texts for path in after):
-            names = [it for line in edit.words.get("refused", []) for it, _ in refusers.named_by(line)]
-            waiting.append((name, edit, number, after, names, turns(modules, folder, edit, after, others)))
-            lost_of[name] = []
+    for number, (name, (edit, after)) in enumerate(edits.items()):
+        names = [it for line in edit.words.get("refused", []) for it, _ in refusers.named_by(line)]
+        waiting.append((name, edit, number, after, names, turns(modules, folder, edit, after, others)))
 
     def check(names):
         bring(folder, names)
@@ -193,16 +108,17 @@ def together_tried(folder, edits, is_quick):
 
     while waiting:
         now, lines = [], 0
-        while waiting and (not now or lines < AT_ONCE):
-            name, edit, number, after, names, files = waiting.pop(0)
+        while waiting and lines < AT_ONCE:
+            name, edit, number, after, names, files = waiting[0]
             copies = together.Copies(modules, name, edit, number, after, files[0], names)
+            if now and not copies.is_all:
+                break
+            waiting.pop(0)
             now.append((copies, (name, edit, number, after, (), files[1:])))
-            lines += sum(text.count("\n") for text in copies.texts.values())
-        counts, lost = together.Together(folder, check, [it for it, _ in now if it.is_all]).refused()
-        for copies, it in now:
+            lines += sum(text.count("\n") for text in copies.texts.values()) if copies.is_all else AT_ONCE
+        counts, lost = together.Together(folder, check, [it for it, _ in now]).refused()
+        for _, it in now:
             name, left = it[0], it[-1]
-            if not copies.is_all:
-                continue
             lost_of[name] = lost[name] if isinstance(lost[name], str) else [*lost_of[name], *lost[name]]
             if not counts[name] and left and not isinstance(lost[name], str):
                 waiting.append(it)

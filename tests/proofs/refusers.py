@@ -4,7 +4,6 @@ import glob
 import os
 import re
 
-import refuted
 import repo
 
 # ---- which theorems count
@@ -72,40 +71,6 @@ class Texts:
         return None if self.is_cited(path, name) else "theorem"
 
 COMMENT = re.compile(r"^ *(?:--|//).*$", re.M)
-FUNCTION = re.compile(r"^fn (\S+): (?!proved)(.*)$", re.M)
-AFTER_ANOTHER = "which was not admitted"
-
-
-class Refusals:
-    """What no longer checks in a crate, by what `rt check` said: the theorems that are computed to be
-    false, theorems and laws that may be, and what counts for nothing."""
-
-    def __init__(self, crate, text):
-        texts, without_lemma = Texts(crate), set()
-        self.counts, self.open, self.laws, self.broken = [], [], [], []
-        for it in refuted.all_failures(text, lambda path: texts.texts.get(path, "")):
-            # the proof of a law stands in a folder of the law's name
-            law = next((word for word in it.path.split("/") if word.startswith("law_")), None)
-            if AFTER_ANOTHER in it.words:
-                without_lemma.add(law)
-            kind = it.name and texts.kind_of(it.path, it.name)
-            values = kind and refuted.computed(it, refuted.theorem(texts.texts[it.path], it.name))
-            if values:
-                self.counts.append(f"{kind} {it}, where {values}")
-            elif kind:
-                self.open.append((kind, it))
-            elif not law:
-                self.broken.append(str(it))
-        for name, why in FUNCTION.findall(text):
-            law = name.rpartition("::")[2]
-            if "it calls" in why or law in without_lemma:
-                self.broken.append(f"{law}, by a lemma or a law that it rests on")
-            elif law.startswith("law_"):
-                self.laws.append(law)
-            else:
-                self.broken.append(f"the body of {law}")
-
-
 # ---- the theorems that cases name
 
 # a line 'refused: ..' names theorems, with the file in brackets behind one or several of them

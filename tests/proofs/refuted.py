@@ -9,9 +9,7 @@ statement S counts as false in two ways alone:
                and no variable
     shown      the prover admits `(S) → ⊥`, which `Negations` puts behind the theorem on a copy, by
                one of a few searches or by a term that the case brings; or a search for S itself
-               ends with values at which S fails, which the kernel has checked. What a long table
-               comes to is not printed: there the lemmas of tests/hosts/apart/CRATE.lemmas tell its two
-               sides apart, where the crate has them
+               ends with values at which S fails, which the kernel has checked
 
 Nothing is said where neither is so: the statement may hold.
 """
@@ -161,42 +159,12 @@ def is_literal(value):
     return bool(re.fullmatch(rf"(?:(?:[\w.]+\.)?{VALUE}|◌∷◌|\d+|[\[\](){{}},;∷\s])+", words))
 
 
-# ---- computed in part
-
-# What a long table and the right one come to is cut short where a check prints it. So each place is
-# asked by itself: of `e : xs ≡ ys` the check is made to say what it is at that place.
-PLACES = 24
-AT_PLACE = ("λ {0}h. {0}ap (λ l. {0}get l {1}) {0}h{2}",
-            "λ {0}h. {0}ap (λ l. {0}get ({0}flat (λ m. m) l) {1}) {0}h{2}")
-SAID = re.compile(r"the two types are `⊥` \(expected\) and `Path (.*)` \(found\)")
-
-
-def differ_there(failure):
-    """Whether the check has said of a place that two different values are equal there."""
-    said = SAID.search(failure.words)
-    if not said or "…" in said[0]:
-        return False
-    depth, cuts = 0, [0]
-    for at, sign in enumerate(said[1]):
-        depth += (sign in "([{") - (sign in ")]}")
-        if not depth and sign == " ":
-            cuts.append(at)
-    values = [said[1][at:to].strip() for at, to in zip(cuts, [*cuts[1:], None])][-2:]
-    return len(values) == 2 and values[0] != values[1] and all(map(is_literal, values))
-
-
 # ---- shown
 
-# of a crate the lemmas by which two of its values are told apart that are too long to be printed; each
-# takes that they are equal, and two proofs by `refl`, and gives ⊥
-APART_LEMMAS = f"{repo.TOP}/tests/hosts/apart"
-TOO_LONG = re.compile(r"computing it took more than \d+ steps")
-
 # what each search may use, beside what stands in the statement
-LAWS, LEMMAS = "JudgedLaws", "JudgedLemmas"
+LAWS = "JudgedLaws"
 USED = """\
-use Rattle.std.proofs.Common.{{arith as {0}arith, ap as {0}ap, slice_get as {0}get}}
-use Rattle.std.specs.List.{{flat_map as {0}flat}}
+use Rattle.std.proofs.Common.{{arith as {0}arith, ap as {0}ap}}
 use Rattle.std.proofs.lemmas.Bool.Decides.{{nat_tests as {0}tests}}
 use Rattle.std.proofs.lemmas.Bool.{{ne_eqb as {0}ne}}
 use Rattle.std.proofs.lemmas.Option.{{same_Some as {0}same}}
@@ -211,114 +179,70 @@ HEARD = "_heard"
 
 
 class Negations:
-    """The negations of some theorems, put into their files on a copy, each with several proofs. Of many cases
-    they are put in twice: first without what asks each place of a table, which costs the most."""
+    """The negations of some theorems, put into their files on a copy, each with several proofs."""
 
-    def __init__(self, folder, edit, uses, texts=None, is_first=None):
-        # of each theorem the terms that the case brings, and what these bring in and unfold; the texts of
-        # the copy that do not lie in the folder
-        self.folder, self.lying, self.uses, self.is_first = folder, texts or {}, uses, is_first
+    def __init__(self, edit, uses, texts):
+        # the texts of the copy; of each theorem the terms that the case brings, and what these bring in and unfold
+        self.bare, self.texts, self.uses = texts, {}, uses
         self.given = terms(edit.words.get("false", []))
         self.unfolds = " ".join(edit.words.get("unfolding", []))
-        self.bare, self.texts, self.files = {}, {}, {}
-        self.crate = os.path.basename(folder)
-        path = f"{APART_LEMMAS}/{self.crate}.lemmas"
-        self.lemmas = repo.text_of(path) if os.path.exists(path) else ""
         # of each theorem or clause the names of its negations, with their proofs
-        self.tried, self.long = {}, set()
+        self.tried, self.files = {}, {}
 
     def add(self, failure):
         """Puts the negation of a theorem in, once for each way in which it may be shown."""
-        if failure.path not in self.bare:
-            text = self.lying.get(failure.path) or repo.text_of(f"{self.folder}/{failure.path}")
-            self.bare[failure.path] = self.texts[failure.path] = text
-        item = theorem(self.bare[failure.path], failure.name)
+        text = self.bare[failure.path]
+        item = theorem(text, failure.name)
         if item is None:
             return
         statement, body = item.split()
-        stated = re.match(rf"(?:pub )?{re.escape(item.name)} :", statement)
+        stated = re.match(rf"(?:pub )?{re.escape(item.name)} :(.*)", statement, re.S)
         if not stated or not body:
             return
+        self.texts.setdefault(failure.path, text)
         opened = re.match(r"unfolding .*(?:\n .*)*\n", body)
         opened = opened[0].rstrip() if opened else None
-        key = failure.path, failure.name
-        by_refl = BY_REFL.fullmatch(body.strip() + "\n")
-        way = way_of(failure, item, self.bare[failure.path])[0] if by_refl else ""
-        if self.is_first is False and not by_refl:
-            return
-        # (a check says so at the first of a theorem's parts alone)
-        is_long = by_refl and self.lemmas and (TOO_LONG.search(failure.words) or key in self.long)
-        self.long |= {key} if is_long else set()
-        if self.is_first is not None:
-            is_long = by_refl and self.lemmas and self.is_first
-        proofs = self.given.get(item.name, []) + (
-            [f"λ {MARK}h. {MARK}{it} {MARK}h{way} refl refl" for it in self.names_of_lemmas()]
-            if is_long else list(ways(failure, item, self.bare[failure.path])))
+        key, given = (failure.path, failure.name), self.given.get(item.name, [])
         if key not in self.tried:
             self.tried[key] = {}
-            again = f"{MARK}{list(self.tried).index(key)}_again"
-            if not is_long:
-                self.put(failure.path, again, statement[stated.end():], opened, SEARCH)
-            if by_refl and not is_long and not self.is_first:
-                for count, probe in enumerate(AT_PLACE * PLACES):
-                    self.put(failure.path, f"{again}_{count}", f" ({statement[stated.end():]}\n    ) → ⊥",
-                             opened, probe.format(MARK, count // 2, way))
-        for proof in proofs:
+            self.put(failure.path, f"{self.mark(key)}again", stated[1], opened, SEARCH)
+        for proof in [*given, *ways(stated[1])]:
             if proof not in self.tried[key].values():
-                name = f"{MARK}{list(self.tried).index(key)}_{len(self.tried[key])}"
-                self.tried[key][name] = proof
-                own = proof in self.given.get(item.name, []) and self.unfolds
-                self.put(failure.path, name, f" ({statement[stated.end():]}\n    ) → ⊥",
-                         f"{opened or 'unfolding'} {self.unfolds}" if own else opened, proof)
-                self.hear(failure.path, name)
+                own = f"{opened or 'unfolding'} {self.unfolds}" if proof in given and self.unfolds else opened
+                self.deny(key, stated[1], own, proof)
 
-    def names_of_lemmas(self):
-        return re.findall(r"^pub (\w+) :", self.lemmas, re.M)
-
-    def bring(self, module, text):
-        """Puts a file in among the proofs, if it is not there; of many cases the check lists it."""
-        if f"proofs/{module}.antt" not in self.texts:
-            lib = "proofs/Lib.antt"
-            if self.is_first is None:
-                self.texts.setdefault(lib, repo.text_of(f"{self.folder}/{lib}"))
-                self.texts[lib] += f"mod {module}\n"
-            self.texts[f"proofs/{module}.antt"] = text
+    def mark(self, key):
+        return f"{MARK}{list(self.tried).index(key)}_"
 
     def put(self, path, name, statement, opened, proof):
         lines = ["", f"{name} :{statement}", opened, f"{name} = {proof}", ""]
         self.texts[path] += "\n".join(it for it in lines if it is not None)
 
+    def deny(self, key, statement, opened, proof):
+        """Puts a proof of the negation of a statement in, and what is heard of it."""
+        path, name = key[0], f"{self.mark(key)}{len(self.tried[key])}"
+        self.tried[key][name] = proof
+        self.put(path, name, f" ({statement}\n    ) → ⊥", opened, proof)
+        self.put(path, f"{name}{HEARD}", " Unit {0} → ⊥", None, f"λ u. let n = {name} in u")
+
     def add_law(self, name, law, path):
         """Puts the negation of a law's clause in, by its name with the label, what it says and what that brings
         in, by the terms of the case; into this file."""
         statement, uses = law
-        self.texts.setdefault(path, "")
-        missing = [it for it in uses if it not in self.texts[path].splitlines()]
-        self.texts[path] = "".join(f"{it}\n" for it in missing) + self.texts[path]
-        number, self.tried[path, name] = len(self.tried), {}
-        opened = f"unfolding {self.unfolds}" if self.unfolds else None
-        for at, term in enumerate(self.given[name]):
-            self.tried[path, name][f"{MARK}{number}_{at}"] = term
-            self.put(path, f"{MARK}{number}_{at}", f" ({statement}\n    ) → ⊥", opened, term)
-            self.hear(path, f"{MARK}{number}_{at}")
-
-    def hear(self, path, name):
-        self.put(path, f"{name}{HEARD}", " Unit {0} → ⊥", None, f"λ u. let n = {name} in u")
+        before = self.texts.get(path, "")
+        self.texts[path] = "".join(f"{it}\n" for it in uses if it not in before.splitlines()) + before
+        self.tried[path, name] = {}
+        for term in self.given[name]:
+            self.deny((path, name), statement, f"unfolding {self.unfolds}" if self.unfolds else None, term)
 
     def written(self):
         """The files with what was put in, by their paths."""
-        texts, used = {}, USED.format(MARK).splitlines()
-        if self.lemmas:
-            names = ", ".join(f"{it} as {MARK}{it}" for it in self.names_of_lemmas())
-            used.append(f"use Rattle.{self.crate}.proofs.{LEMMAS}.{{{names}}}")
-            self.bring(LEMMAS, self.lemmas)
         brought = {path for path, name in self.tried if name in self.given}
-        for path in {path for path, _ in self.tried}:
-            lines = self.texts[path].splitlines()
+        for path, text in self.texts.items():
+            lines = text.splitlines()
             last = max(at for at, it in enumerate(lines) if re.match(r"(pub )?use ", it))
-            lines[last + 1:last + 1] = [*used, *(self.uses if path in brought else [])]
-            texts[path] = "\n".join([*lines, ""])
-        self.files = {**self.texts, **texts}
+            lines[last + 1:last + 1] = [*USED.format(MARK).splitlines(), *(self.uses if path in brought else [])]
+            self.files[path] = "\n".join([*lines, ""])
         return self.files
 
     def name_at(self, failure):
@@ -329,16 +253,10 @@ class Negations:
 
     def shown(self, text):
         """The theorems whose negation the check has admitted, by what it wrote."""
-        said = {(it.path, self.name_at(it)): it for it in failures(text) if not DEPENDS.search(it.words)}
-        shown = []
-        for number, ((path, name), names) in enumerate(self.tried.items()):
-            again = f"{MARK}{number}_again"
-            fails = (path, again) in said and said[path, again].words.startswith(FAILS)
-            apart = any(differ_there(it) for (at, place), it in said.items()
-                        if at == path and place and place.startswith(f"{again}_"))
-            if fails or apart or any((path, f"{it}{HEARD}") in said for it in names):
-                shown.append((path, name))
-        return shown
+        said = {(it.path, self.name_at(it)): it.words for it in failures(text) if not DEPENDS.search(it.words)}
+        return [key for key, names in self.tried.items()
+                if said.get((key[0], f"{self.mark(key)}again"), "").startswith(FAILS)
+                or any((key[0], f"{it}{HEARD}") in said for it in names)]
 
 
 def laws_of(folder, edit):
@@ -370,67 +288,37 @@ def terms(lines):
     return found
 
 
-def ways(failure, item, text):
-    """Proofs by which the negation of a theorem may be shown, in the terms of antt."""
+def ways(statement):
+    """Proofs by which the negation of a statement may be shown, in the terms of antt: by a search, and of each
+    denial that it has, of what that denies by searches."""
     yield f"λ {MARK}h. {SEARCH}"
-    equation = re.search(rf"^{re.escape(item.name)}((?: .*?)??) =(?=\s|$)", item.split()[1], re.M)
-    if not equation:
-        return
-    given = arguments(equation[1])
-    if given:
-        # a denial of what these say, each of which is searched for
-        yield f"λ {MARK}h. {MARK}h" + f" ({SEARCH})" * given
-    else:
-        way, given = way_of(failure, item, text)
-        if way:
-            yield f"λ {MARK}h. {MARK}h{way}" + f" ({SEARCH})" * max(given, 1)
+    stated = re.sub(r"^ *--.*\n", "", statement, flags=re.M)
+    factors = [stated] if len(split_at(stated, "→")) > 1 else split_at(stated, "×")
+    for place, factor in enumerate(factors):
+        taken = denied(factor)
+        if taken:
+            at = f".{place}" if factors[1:] else ""
+            yield f"λ {MARK}h. {MARK}h{at}" + f" ({SEARCH})" * taken
 
 
-def way_of(failure, item, text):
-    """The part of the proof that is refused, as `.2`, and how many arguments it takes; of a proof
-    without arguments."""
-    equation = re.search(rf"^{re.escape(item.name)} =(?=\s|$)", item.split()[1], re.M)
-    begins = text.index("\n".join(item.lines)) + len(item.split()[0]) + 1 + equation.end()
-    return part_of(text[begins:], offset_of(failure, text) - begins)
+def split_at(text, sign):
+    """The parts of a text between these signs outside brackets."""
+    depth, parts = 0, [""]
+    for it in text:
+        depth += (it in "({[") - (it in ")}]")
+        if it == sign and not depth:
+            parts.append("")
+        else:
+            parts[-1] += it
+    return [it.strip() for it in parts]
 
 
-def arguments(words):
-    """How many arguments stand in the words: each a name, or what stands in brackets."""
-    return len(re.sub(r"[(\[{]+[)\]}]+", " _ ", parts_at_top(words)).split())
-
-
-def offset_of(failure, text):
-    """Where in the text the check has found the failure."""
-    lines = text.splitlines(keepends=True)
-    return sum(len(it) for it in lines[:failure.line - 1]) + failure.column - 1
-
-
-def part_of(text, at):
-    """In which part of the tuple or record that the text begins with this place stands, as `.2`, and
-    how many arguments the function takes that stands there."""
-    opened = re.match(r"\s*(?:\(|record \{)", text)
-    if not opened or at < opened.end():
-        return "", 0
-    is_record = opened[0].endswith("{")
-    depth, begins, count = 1, opened.end(), 0
-    for place in range(opened.end(), at):
-        sign = text[place]
-        depth += (sign in "({[") - (sign in ")}]")
-        if not depth:
-            return "", 0
-        if depth == 1 and sign == (";" if is_record else ","):
-            begins, count = place + 1, count + 1
-    binds = re.match(r"\s*(?:(\w+) = )?(?:λ ([^.]*)\.)?", text[begins:])
-    if not is_record and not count and not has_second(text[begins:]):
-        return "", 0
-    return f".{binds[1] if is_record else count}", arguments(binds[2] or "")
-
-
-def has_second(text):
-    """Whether a comma follows before the bracket closes in which the text begins."""
-    depth = 0
-    for sign in text:
-        if not depth and sign in ",)":
-            return sign == ","
-        depth += (sign in "({[") - (sign in ")}]")
-    return False
+def denied(factor):
+    """How many arguments a denial takes; 0 of what is none."""
+    if factor.startswith("¬"):
+        return 1
+    if factor.startswith("(") and parts_at_top(factor) == "()":
+        return denied(factor[1:-1].strip())
+    *taken, last = split_at(factor, "→")
+    names = [re.fullmatch(r"((?:\([^():]*:[^:]*\)\s*)+)", it) for it in taken]
+    return sum(len(" ".join(re.findall(r"\(([^():]*):", it[1])).split()) if it else 1 for it in names) if last == "⊥" else 0

@@ -6,8 +6,8 @@ written once more, under names of the case's own (`Safe` as `SafeOfCase7`), and 
 examples of all cases. What it says of a copy it says of that case.
 
 A law counts where a term of the case shows its negation, for which no proof of the law is asked. So
-nothing is left that a check of the whole crate could add. Only a case that changes code is tried by
-itself, and one whose change a type of the code may speak of, since types are not copied.
+nothing is left that a check of the whole crate could add. Only a case whose change a type of the code
+may speak of is tried by itself, in its place, since types are not copied.
 """
 import functools
 import glob
@@ -23,6 +23,10 @@ USE = r"^((?:pub )?use )Rattle\.{crate}\.(specs|proofs)\.(\w+)(?:\.\{{([^}}]*)\}
 # a name of what `rt` makes of a type of the crate's code, and what such a type says by definitions
 MADE = r"^(?:pub )?use Rattle\.{crate}\.(?:specs|proofs)\.declared\.((?:[a-z]\w*\.)+)"
 GHOST_FIELD = re.compile(r"^ +(?:pub(?:\(\w+\))? )?ghost \w+:", re.M)
+# the names that a file of the code brings in from definitions
+BROUGHT = re.compile(r"ghost use [^;{]*\bspecs\.[^;{]*\{([^}]*)\}")
+BLOCK = re.compile(r"\n\n(?=\S)")
+WORD, DECLARES = refuted.WORD, refuted.DECLARES
 ONLY_USES = re.compile(r"(?:(?:(?:pub )?use .*|--.*|)\n)*")
 
 
@@ -92,20 +96,32 @@ class Modules:
         while more := {it for it in needed - found if self.named_in(texts[it]) & found}:
             found |= more
         found &= needed
-        is_all = not any(self.is_by_definitions(it.rstrip(".").replace(".", "/"))
+        names = self.touched(changed, {it: texts[it] for it in found})
+        is_all = not any(self.is_by_definitions(it.rstrip(".").replace(".", "/"), names)
                          for at in found for it in self.made.findall(texts[at]))
         return {it: texts[it] for it in found}, is_all
 
-    def is_by_definitions(self, path):
-        """Whether a type of this file of the code may say something by definitions of the crate, by a file that
-        it names, too."""
+    def touched(self, changed, texts):
+        """The names in these texts that the changes touch, themselves or by others."""
+        blocks = [({*DECLARES.findall(it)}, {*WORD.findall(it)}) for text in texts.values() for it in BLOCK.split(text)]
+        found = {name for path, text in changed.items() for it in {*BLOCK.split(text)} - {*BLOCK.split(self.texts[path])}
+                 for name in DECLARES.findall(it)}
+        while more := {name for names, words in blocks if words & found for name in names} - found:
+            found |= more
+        return found
+
+    def is_by_definitions(self, path, names):
+        """Whether a type of this file of the code may say something by these definitions of the crate, by a file
+        that it names, too."""
         found, waiting = set(), [path]
         while waiting:
             path = waiting.pop()
             if path not in found and path in self.code:
                 found.add(path)
                 waiting += re.findall(r"\bcrate::(\w+)", self.code[path])
-        return any(GHOST_FIELD.search(self.code[it]) for it in found)
+        return any(GHOST_FIELD.search(self.code[it]) and names & {
+            word.split(" as ")[0].strip() for words in BROUGHT.findall(self.code[it]) for word in words.split(",")}
+                   for it in found)
 
     def renamed(self, text, paths, tag):
         """The text, where modules of these paths have names with the tag."""
@@ -135,7 +151,6 @@ def with_theorems(folder, modules):
 
 
 THEOREM = re.compile(r"^(?:pub )?([^\s(){}:]+) :(?=\s)", re.M)
-WORD, DECLARES = refuted.WORD, refuted.DECLARES
 # within a type, or a section
 INSIDE = re.compile(r"^  (?:(?:pub|abbrev) )*([^\s(){}:]+)(?= :\s)", re.M)
 HOLDS = re.compile(r"^(?:pub )?(?:record|data|module) ", re.M)
@@ -143,7 +158,7 @@ HOLDS = re.compile(r"^(?:pub )?(?:record|data|module) ", re.M)
 
 def cut(text, names):
     """The text without the theorems that are neither of these names nor needed for those that are."""
-    head, *blocks = re.split(r"\n\n(?=\S)", text)
+    head, *blocks = BLOCK.split(text)
     said = [{*DECLARES.findall(it), *(INSIDE.findall(it) if HOLDS.search(it) else ())} for it in blocks]
     # an operator is used by its parts
     kept = {at for at, it in enumerate(said) if it & set(names) or any("◌" in word for word in it)}
@@ -175,11 +190,13 @@ class Copies:
     the files that are asked they have these theorems alone, if some are named."""
 
     def __init__(self, modules, name, edit, number, changed, asked, names=()):
-        self.name, self.edit, self.tag = name, edit, f"OfCase{number}"
+        self.name, self.edit = name, edit
         brought = [f"use {it}" for it in edit.words.get("use", [])]
         laws = refuted.laws_of(modules.folder, edit)
         lines = [*brought, *(line for _, uses in laws.values() for line in uses)]
         texts, self.is_all = modules.reached(changed, [*asked, *modules.named_in("\n".join(lines))])
+        # what a type of the code may speak of is changed in its own place, for a check of this case alone
+        self.tag = f"OfCase{number}" if self.is_all else ""
         self.texts, self.of = {}, {}
         for path, text in texts.items():
             to = path.replace(".antt", f"{self.tag}.antt")
@@ -187,9 +204,10 @@ class Copies:
             self.of[to] = path
         self.asked = [to for to, path in self.of.items() if path in asked]
         given = {*WORD.findall("\n".join([*lines, *edit.words.get("false", []), *edit.words.get("unfolding", [])]))}
-        if names:
+        if names and self.is_all:
             self.texts |= {to: pruned(cut(self.texts[to], names), given) for to in self.asked}
-        self.trim(given)
+        if self.is_all:
+            self.trim(given)
         self.uses = [modules.renamed(it, texts, self.tag) for it in brought]
         self.laws = {law: (says, [modules.renamed(it, texts, self.tag) for it in uses])
                      for law, (says, uses) in laws.items()}
@@ -205,14 +223,17 @@ class Copies:
                 break
             words |= more
 
-    def negations(self, folder, failures, is_first):
-        """The negations of these theorems, and at first of the laws that the case says to be false."""
-        found = refuted.Negations(folder, self.edit, self.uses, self.texts, is_first)
+    def negations(self, failures):
+        """The negations of these theorems, and of the laws that the case says to be false."""
+        found = refuted.Negations(self.edit, self.uses, self.texts)
         for failure in failures:
             found.add(failure)
-        for law, said in self.laws.items() if is_first else ():
+        for law, said in self.laws.items():
             found.add_law(law, said, f"proofs/{refuted.LAWS}{self.tag}.antt")
         return found
+
+
+LIBS = ("specs/Lib.antt", "proofs/Lib.antt")
 
 
 class Together:
@@ -236,19 +257,17 @@ class Together:
                 counts[it.name].append(f"{kind} {self.at(it, failure)}, where {values}")
             else:
                 lost[it.name].append((kind, failure))
-        for is_first in (True, False):
-            self.count_negations(counts, lost, is_first)
+        self.count_negations(counts, lost)
         said = {it.name: [f"{kind} {self.at(it, failure)}" for kind, failure in lost[it.name]]
                 for it in self.copies}
         return {**counts, **dict.fromkeys(bad, [])}, {**said, **bad}
 
-    def count_negations(self, counts, lost, is_first):
+    def count_negations(self, counts, lost):
         """Counts what is lost, and the laws of cases, where its negation is proved; of cases that have none."""
-        asked = {it: it.negations(self.folder, [failure for _, failure in lost[it.name]], is_first)
+        asked = {it: it.negations([failure for _, failure in lost[it.name]])
                  for it in self.copies if (lost[it.name] or it.laws) and not counts[it.name]}
-        tried = {it: some for it, some in asked.items() if some.tried}
-        written = {path: text for some in tried.values() for path, text in some.written().items()}
-        text = self.said(written, list(tried)) if written else ""
+        written = {path: text for some in asked.values() for path, text in some.written().items()}
+        text = self.said(written, list(asked)) if written else ""
         for it, some in asked.items():
             shown = some.shown(text)
             counts[it.name] = [f"{kind} {self.at(it, failure)}, whose negation is proved"
@@ -280,15 +299,16 @@ class Together:
     def said(self, texts, copies):
         """What the check says of these copies, some of them with these texts."""
         all_texts = {path: text for it in copies for path, text in it.texts.items()} | texts
-        libs = {f"{part}/Lib.antt": repo.text_of(f"{self.folder}/{part}/Lib.antt") for part in ("specs", "proofs")}
-        listed = {path: text + "".join(
-            f"pub mod {os.path.basename(it)[:-5]}\n" for it in sorted(all_texts)
-            if os.path.dirname(it) == os.path.dirname(path)) for path, text in libs.items()}
+        before = {path: repo.text_of(f"{self.folder}/{path}") for path in (*all_texts, *LIBS)
+                  if os.path.exists(f"{self.folder}/{path}")}
+        listed = {path: before[path] + "".join(
+            f"pub mod {os.path.basename(it)[:-5]}\n" for it in sorted(all_texts.keys() - before.keys())
+            if os.path.dirname(it) == os.path.dirname(path)) for path in LIBS}
         repo.write(self.folder, {**all_texts, **listed})
         try:
             asked = {at for it in copies for at in it.asked} | {at for at in texts if refuted.LAWS in at}
             return self.check(sorted(os.path.basename(at)[:-5] for at in asked)) if asked else ""
         finally:
-            repo.write(self.folder, libs)
-            for path in all_texts:
+            repo.write(self.folder, before)
+            for path in all_texts.keys() - before.keys():
                 os.remove(f"{self.folder}/{path}")

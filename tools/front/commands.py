@@ -132,9 +132,9 @@ class Front:
         library, in any case."""
         asked = words.prove().read(given)
         if asked.what == "lib":
-            made = "compiled, and not proved" if asked.unproved else "built"
+            made, ending = ("compiled, and not proved", "-unproved") if asked.unproved else ("built", "")
             return self.by_prover(["lib", *values(asked, "target"), *flags(asked, "unproved")],
-                                  f"{made}; the library is in out/lib")
+                                  f"{made}; the library is in out/lib/{asked.target or 'x86_64'}{ending}")
         name = WHOLE if asked.what else REPLAYER
         if is_current(name):
             return 0
@@ -155,7 +155,7 @@ class Front:
         first, rest = given[0] if given else None, given[1:]
         if first in ("--version", "-V"):
             return write(f"psci {words.version()}\n")
-        if first in ("--help", "-h") or (first == "help" and not rest):
+        if first in ("--help", "-h") or (first == "help" and rest[:1] in ([], ["help"], ["--help"], ["-h"])):
             return write(words.help_text())
         if first == "help":
             return self.run([rest[0], "--help"], ("help",)) if rest[0] in words.COMMANDS else \

@@ -10,7 +10,7 @@ import functions
 
 from . import boards
 from .events import read_event
-from .reader import Wrong, near, number_fault, strange
+from .reader import MOST_BYTES, TOO_LONG, Wrong, near, number_fault, strange
 
 # A function: its words by SMC32 and SMC64 (None where there is none), and the kinds of its arguments.
 Function = namedtuple("Function", "smc32 smc64 takes")
@@ -78,7 +78,7 @@ class Board:
 
     def domain(self, name):
         """The affinity word and the level of core 3, cluster1, system or the like; nothing if it is none."""
-        match = re.fullmatch(r"([a-z]*)([0-9]{0,3})", name)
+        match = re.fullmatch(r"([a-z]*)(|0|[1-9][0-9]{0,2})", name)
         level = (match[1] or "core") if match else None
         found = self.words.get(level, [])
         at = int(match[2] or 0) if match else 0
@@ -108,9 +108,11 @@ class Board:
             depths = [DEPTHS.index(it) for it in name.split(",")]
         else:
             return None
+        if len(depths) > len(self.levels) or depths != sorted(depths, reverse=True):
+            return None
         while depths and depths[-1] == 0:
             depths.pop()
-        if not depths or len(depths) > len(self.levels) or depths != sorted(depths, reverse=True):
+        if not depths:
             return None
         word = sum(depth << 4 * level for level, depth in enumerate(depths))
         if self.is_extended:
@@ -132,9 +134,7 @@ class Board:
 def argument(board, kind, word, at):
     """The registers that an argument stands for: its number, and the level of a domain by name."""
     if re.match("[0-9]", word) and not (kind in ("core", "domain") and word.isdigit()):
-        if number_fault(word, "a register", None):
-            raise Wrong(at + number_fault(word, "a register", None)[0],
-                             number_fault(word, "a register", None)[1])
+        numbered(word, "a register", None, at)
         return [word]
     found = {"core": board.domain, "domain": board.domain, "state": board.state, "mode": MODES.get,
              "function": word_of_any}.get(kind, lambda name: None)(word.lower())
@@ -145,10 +145,17 @@ def argument(board, kind, word, at):
     return [f"{found[0] if kind == 'core' else found:#x}"]
 
 
+def numbered(word, what, hexadecimal, at):
+    """Raises where a word at this place is no number."""
+    reason = number_fault(word, what, hexadecimal)
+    if reason:
+        raise Wrong(at + reason[0], reason[1])
+
+
 def word_of_any(name):
     """The function word of a name in small letters, as the standard has it or shorter; nothing if it is none."""
-    name = f"cpu_{name}" if name in ("suspend", "suspend.32") else name
-    return word_of(name[5:] if name.startswith("psci_") else name)
+    name = name.removeprefix("psci_")
+    return word_of(f"cpu_{name}" if name in ("suspend", "suspend.32") else name)
 
 
 def called(name, at):
@@ -171,20 +178,28 @@ def form_of(line):
     return f"call CORE {match[2]}" + "".join(f" [{it}" for it in words) + "]" * len(words)
 
 
+def takes_of(word):
+    """The kinds of what a call of this word takes."""
+    return FUNCTIONS[NAMES[word].partition(".")[0]].takes
+
+
 def plain_call(board, line):
     """The plain line of a call by name; one that is plain already, or faulty, as it is."""
     match = NAMED.match(line)
     if not match:
         return line
+    if len(line) > MOST_BYTES:
+        raise Wrong(MOST_BYTES, TOO_LONG)
     bad = re.search(r"[^ -~]", line)
     if bad:
         raise Wrong(bad.start(), f"{strange(bad[0])}, where only letters and blanks are allowed")
+    numbered(match[1], "the number of a core", False, match.start(1))
     word, at = called(match[2], match.start(2)), match.end()
-    name, takes, registers = NAMES[word], FUNCTIONS[NAMES[word].partition(".")[0]].takes, []
+    takes, registers = takes_of(word), []
     for given in line[at:].split(" ")[1:]:
         at += 1
         if len(registers) >= len(takes):
-            raise Wrong(at, f"a word too many: {name} takes {len(takes)}")
+            raise Wrong(at, f"a word too many: {NAMES[word]} takes {len(takes)}")
         registers += argument(board, takes[len(registers)], given, at)
         at += len(given)
     return " ".join([f"call {match[1]} 0x{word:X}", *registers])

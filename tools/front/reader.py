@@ -3,6 +3,8 @@ import difflib
 import re
 
 NUMBER = "a number in decimal"
+MOST_BYTES = 256
+TOO_LONG = f"a line has at most {MOST_BYTES} bytes before its LF"
 
 
 class Wrong(Exception):

@@ -269,7 +269,9 @@ def reason(file):
     try:
         if fcntl.fcntl(file, fcntl.F_GETFL) & os.O_ACCMODE == os.O_RDONLY:
             return os.strerror(errno.EBADF)
-        is_full = os.fstat(file).st_rdev == os.makedev(1, 7) or os.fstatvfs(file).f_bavail == 0
+        found = os.fstat(file)
+        # a pipe has no room of its own, and is not full
+        is_full = found.st_rdev == os.makedev(1, 7) or stat.S_ISREG(found.st_mode) and not os.fstatvfs(file).f_bavail
         return os.strerror(errno.ENOSPC) if is_full else None
     except OSError as fault:
         return fault.strerror

@@ -2,10 +2,12 @@
 import re
 
 from . import plain, told
-from .reader import Wrong, pointed
+from .reader import MOST_BYTES, Wrong, pointed
 
-# a line with a call by name, as bytes
-NAMED = re.compile(rb"^call [0-9]+ [A-Za-z][^\n]*", re.M)
+# the beginning of a line with a call by name, as bytes
+NAMED = re.compile(rb"^call [0-9]+ [A-Za-z]", re.M)
+# how many lines, and beginnings of lines, are kept with what they are made, and how long three registers are at most
+KEPT, MOST_REST = 1 << 16, 3 * len(" 18446744073709551615")
 
 
 class Names:
@@ -14,32 +16,59 @@ class Names:
 
     def __init__(self):
         self.first, self.waiting, self.is_inside = b"", b"", False
-        self.board = None
+        # what lines are made, and beginnings of lines with the words that may follow: most lines of a script are alike
+        self.board, self.made, self.begun = None, {}, {}
 
     def plain(self, some):
         """What is known of the plain script once these bytes have come; all of it where nothing more comes. A line
         that has not ended waits, up to the length that the program finds too long."""
         whole = self.waiting + some
         cut = whole.rfind(b"\n") + 1
-        if not some or len(whole) - cut > told.MOST_BYTES:
+        if not some or len(whole) - cut > MOST_BYTES:
             cut = len(whole)
         ready, self.waiting = whole[:cut], whole[cut:]
         if b"\n" not in self.first:
-            self.first += ready[:told.MOST_BYTES + 1]
+            self.first += ready[:MOST_BYTES + 1]
         begin = (ready.find(b"\n") + 1 or len(ready)) if self.is_inside else 0
         if ready:
             self.is_inside = not ready.endswith(b"\n")
-        return ready[:begin] + NAMED.sub(self.call, ready[begin:])
+        if not NAMED.search(ready, begin):
+            return ready
+        if len(self.made) > KEPT:
+            self.made.clear()
+        made = self.made
+        return ready[:begin] + b"\n".join([made.get(it) or self.line(it) for it in ready[begin:].split(b"\n")])
 
-    def call(self, match):
-        """The plain line of a call by name."""
-        try:
-            if self.board is None:
-                first = self.first.partition(b"\n")[0].decode(errors="replace")
-                self.board = plain.Board(first.removeprefix("board "))
-            return plain.plain_call(self.board, match[0].decode(errors="replace")).encode()
-        except Wrong:
-            return match[0]
+    def line(self, line):
+        """What a line is made, which is not kept: a plain one of a call by name."""
+        words = line.split(b" ", 4)
+        rest = b" " + words.pop() if len(words) > 4 else b""
+        if words[0] != b"call" or len(rest) > MOST_REST:
+            return line
+        known = self.begun.get(tuple(words)) or self.beginning(words)
+        # only the first argument of a call has a name; the program reads the others
+        made = known[0] + rest if rest.count(b" ") <= known[1] else line
+        self.made[line] = made
+        return made
+
+    def beginning(self, words):
+        """What these first words of a call are made, and how many more may follow. Those at fault stay, and the
+        program finds it."""
+        line = b" ".join(words)
+        found = line, MOST_BYTES
+        if NAMED.match(line):
+            try:
+                if self.board is None:
+                    first = self.first.partition(b"\n")[0].decode(errors="replace")
+                    self.board = plain.Board(first.removeprefix("board "))
+                made = plain.plain_call(self.board, line.decode(errors="replace")).split(" ")
+                found = " ".join(made).encode(), len(plain.takes_of(int(made[2], 16))) - len(made[3:])
+            except Wrong:
+                pass
+        if len(self.begun) > KEPT:
+            self.begun.clear()
+        self.begun[tuple(words)] = found
+        return found
 
 
 def plain_of(script):

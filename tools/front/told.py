@@ -9,10 +9,9 @@ from views import faults
 
 from . import boards, plain
 from .events import EVENTS, read_event, unknown
-from .reader import Wrong, pointed, strange
+from .reader import MOST_BYTES, TOO_LONG, Wrong, pointed, strange
 
 FORMS = {"call": "call CORE X0 [X1 [X2 [X3]]]", "deliver": "deliver K", "take": "take K"}
-MOST_BYTES = 256
 
 
 def no_board(line):
@@ -46,7 +45,7 @@ def place_of(kind, number, line, first):
         except Wrong as wrong:
             return wrong.at, wrong.text
     if number == 3:
-        return MOST_BYTES, f"a line has at most {MOST_BYTES} bytes before its LF"
+        return MOST_BYTES, TOO_LONG
     return 0, faults.words_of("script")[number].partition(": ")[2]
 
 
@@ -61,7 +60,9 @@ def place(said, line_of):
     line = line_of(number) if match else None
     if line is None:
         return None
-    found = place_of(match[2], int(match[3]), line, line_of(1)) if number else boards.fault(int(match[3]), line)
+    found = place_of(match[2], int(match[3]), line, line_of(1)) if number else \
+        (0, "leave out 'board': what stands behind it is the board") if line.startswith("board ") else \
+        boards.fault(int(match[3]), line)
     word = line.partition(" ")[0].lower()
     is_event = match[2] == "script" and match[3] == "2" and word in EVENTS
     return (number, line, *found, plain.form_of(line) or FORMS.get(word, f"{word} CORE") if is_event else None)

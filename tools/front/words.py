@@ -23,6 +23,8 @@ STATUS = """Exit status: 0 done, 1 not proved or not run, 2 wrong command line, 
 """
 MINUTES = "Times are for a first run on four processors with 3 GiB each."
 COMMAND_FAULT = 2
+# how argparse begins to tell which words are not there
+REQUIRED = "the following arguments are required: "
 # what a board's text has at most, so that `board TEXT` is a line of a script
 MOST_OF_BOARD = 250
 
@@ -55,6 +57,8 @@ class Words(argparse.ArgumentParser):
     def __init__(self, name, about, form, more="", may_repeat=False):
         super().__init__(prog=f"psci {name}", add_help=False, allow_abbrev=False, exit_on_error=False)
         self.name, self.words, self.actions, self.rules = name, [], [], []
+        # options of which one has to stand there
+        self.either = ()
         # whether the last one counts of an option that stands there several times
         self.may_repeat = may_repeat
         self.about, self.form, self.more = about, f"psci {name} {form}", f"{more}\n" if more else ""
@@ -99,6 +103,8 @@ class Words(argparse.ArgumentParser):
             found, more = self.parse_known_args([*joined, *self.words[len(before):]])
         except argparse.ArgumentError as wrong:
             self.wrong_value(wrong)
+        if self.lacking():
+            self.error("")
         for word in more:
             if word != "--":
                 self.fault(self.place(word), f"one word too many: {shown(word)}")
@@ -132,6 +138,9 @@ class Words(argparse.ArgumentParser):
         names = (wrong.argument_name or "").split("/")
         name, at = max(((it, self.place(it)) for it in names), key=lambda it: it[1])
         why = wrong.message
+        if REQUIRED in why:
+            # what argparse told by `error` before Python 3.13
+            self.error(why)
         if why.startswith("expected "):
             self.fault(at + 1, f"{name} needs a value")
         if why.startswith("ignored explicit argument"):
@@ -152,9 +161,15 @@ class Words(argparse.ArgumentParser):
         tip = f": did you mean {like[0]}?" if like else ""
         self.fault(at, f"{self.name} has no option {shown(name)}{tip}")
 
+    def lacking(self):
+        """The options of which one has to stand there, in a list, where none does."""
+        is_there = not self.either or any(self.place(it) >= 0 for it in self.either)
+        return [] if is_there else [f"{self.either[0]} (or {self.either[1]})"]
+
     def error(self, message):
-        """What argparse finds in the end: a word that is not there, or two that do not go together."""
-        self.fault(len(self.words), message.replace("the following arguments are required: ", "missing "))
+        """What is found in the end: words that are not there, or two that do not go together."""
+        missing = [*self.lacking(), *filter(None, message.partition(REQUIRED)[2].split(", "))]
+        self.fault(len(self.words), f"missing {' and '.join(missing)}" if missing else message)
 
 
 def shown(word):
@@ -236,7 +251,7 @@ def storm():
     storm_of(words, seeds_too=True)
     words.add_argument("--seeds", metavar="FIRST..LAST", type=seeds,
                        help="make a storm of each seed, with a line for each")
-    words.rule(lambda it: it.seed is None and it.seeds is None, "--seed", "or --seeds is missing")
+    words.either = "--seed", "--seeds"
     for name in ("seed", "counts", "keep"):
         words.rule(lambda it, name=name: it.seeds and getattr(it, name) not in (None, False), f"--{name}",
                    "is for one storm, not for --seeds")
@@ -266,7 +281,7 @@ def show():
                        ("vcd", "print value changes, for wave viewers")):
         words.actions.append(forms.add_argument(f"--{name}", action=Once, nargs=0, default=False, help=text))
     words.flag("--legend", help="explain letters and marks first")
-    words.add_argument("--width", metavar="COLUMNS", type=number(0, 65535), help="the width of lines, 40 or more")
+    words.add_argument("--width", metavar="COLUMNS", type=number(0, 65535), help="the width of lines, 0 to 65535; under 40 as 40")
     words.add_argument("--color", metavar="WHEN", type=one_of("auto", "always", "never"), default="auto",
                        help="auto (color on a terminal unless NO_COLOR is set), always or never")
     view(words)
@@ -363,13 +378,16 @@ def help_text():
 
 def no_command(words, at):
     """Ends where a word is no command."""
-    like = near(words[at], [*COMMANDS, *FIRST]) if at < len(words) else []
-    why = f"{shown(words[at])} is not a command" if at < len(words) else "missing command"
+    word, before = words[at] if at < len(words) else "", words[:at]
+    names = (*COMMANDS, *FIRST) if "help" not in before else COMMANDS
+    like = near(word, [it for it in names if it not in before and it.startswith("--") == word.startswith("--")])
+    why = "missing command" if at == len(words) else f"{word} is given twice" if word in before else \
+        f"{shown(word)} is not a command"
     fault(words, at, why + (f": did you mean {like[0]}?" if like else ""),
           f"a command: {', '.join(COMMANDS)}; see `psci --help`")
 
 
 def version():
     """The version that the program names."""
-    text = repo.text_of(f"{repo.TOP}/crates/psci_command/src/commands.rt")
+    text = repo.text_of(f"{repo.TOP}/crates/psci_command/src/command_line.rt")
     return re.search(r'^const VERSION: &str = "(.*)";$', text, re.M)[1]

@@ -1,7 +1,7 @@
 """Differences of one kind: function, their answer, ours, and what it is.
 
 What the standard says is told in the words of docs/port/SUPPORT.md, by the name of the function's
-section (DEN0022D; the calling convention is DEN0028), and not by a number.
+section (DEN0022D; the calling convention is DEN0028), with its number where a choice lies in a part of it.
 """
 from collections import namedtuple
 
@@ -13,6 +13,9 @@ Group = namedtuple("Group", "kind what theirs ours why")
 Seen = namedtuple("Seen", "count later first")
 
 MANDATORY = fw.VERSION + fw.CPU_OFF + fw.CPU_ON + fw.AFFINITY_INFO + fw.SYSTEM_OFF + fw.SYSTEM_RESET
+# the codes that a function has by its section, and NOT_SUPPORTED where a profile may say that it is not there
+CODES = ((fw.CPU_SUSPEND, (0, -1, -2, -3, -9)), (fw.NODE_HW_STATE, (0, 1, 2, -1, -2)), (fw.SYSTEM_SUSPEND, range(-9, 1)),
+         (fw.SYSTEM_RESET2, range(-9, 0)), (fw.FEATURES, range(-1, 2**31)))
 
 
 def theirs_of(operation):
@@ -41,6 +44,11 @@ class Case:
         return self.code == code and self.ours <= set(map(str, ours))
 
     @property
+    def has_no_such(self):
+        """Whether the code is one that the function does not have."""
+        return self.code is not None and any(self.of(words) and self.code not in codes for words, codes in CODES)
+
+    @property
     def is_dirty(self):
         """Whether bits are set above an argument or a word of 32 bits."""
         first = self.regs[1] > LOW and not self.regs[0] & fw.SMC64
@@ -64,6 +72,7 @@ RULES = (
      "SYSTEM_RESET2: a vendor's reset that the profile does not have"),
     (lambda it: it.want == "any", "fault", "the system ended by a call that must be refused"),
     (lambda it: it.want == "absent", "fault", "CPU_ON: it was accepted, and the core did not enter"),
+    (lambda it: it.has_no_such, "fault", "the function has no such code: its section lists those that it has"),
     (lambda it: it.of(fw.FEATURES) and it.asked in MANDATORY and it.code == -1, "fault",
      "PSCI_FEATURES: a mandatory function is reported absent"),
     (lambda it: it.of(fw.FEATURES), "choice",
@@ -95,12 +104,21 @@ RULES = (
      "CPU_SUSPEND: INVALID_PARAMETERS for a power state that the platform does not have"),
     (lambda it: it.of(fw.CPU_SUSPEND) and it.code == 0, "choice",
      "CPU_SUSPEND: it may come back at once; the profile says so by 'early yes'"),
-    (lambda it: it.of(fw.CPU_SUSPEND), "choice", "CPU_SUSPEND: power states are the platform's, by its profile"),
+    (lambda it: it.of(fw.CPU_SUSPEND) and it.code == -1, "fault",
+     "CPU_SUSPEND: NOT_SUPPORTED by a firmware whose profile has it"),
+    (lambda it: it.of(fw.CPU_SUSPEND) and it.code == -2, "choice",
+     "CPU_SUSPEND: power states are the platform's (5.4, power_state); the profile says by 'state' which there are"),
+    (lambda it: it.of(fw.CPU_SUSPEND) and it.code == -3, "choice",
+     "CPU_SUSPEND: DENIED is of OS-initiated mode (5.4), and which cores are in the way then the platform's"),
+    (lambda it: it.of(fw.CPU_SUSPEND) and it.code == -9, "choice",
+     "CPU_SUSPEND: INVALID_ADDRESS where the firmware knows it (5.4); the profile says which entry points there are"),
+    (lambda it: it.of(fw.CPU_SUSPEND), "fault", "CPU_SUSPEND: no order of calls gives this answer"),
     (lambda it: it.want == "resume", "choice", "CPU_SUSPEND: a power-down was made a standby; 'early yes' allows it"),
     (lambda it: it.want == "enter", "fault", "a core enters differently than CPU_ON asked, or without a CPU_ON"),
     (lambda it: it.of(fw.SYSTEM_SUSPEND) and it.pair(0, -3), "fault",
      "SYSTEM_SUSPEND: DENIED where another core is not off"),
-    (lambda it: it.word is not None and it.ours == {"-1"}, "choice", "a function that the profile does not have"),
+    (lambda it: it.word is not None and it.ours == {"-1"}, "choice",
+     "PSCI_FEATURES: optional functions are the firmware's; the profile does not have this one"),
     (lambda it: True, "fault", "no order of calls gives this answer"),
 )
 

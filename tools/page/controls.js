@@ -66,10 +66,12 @@ class Controls {
   help() {
     const page = document.getElementById("helping");
     document.getElementById("legend").replaceChildren(...legendRows(this.view.palette));
-    if (page.open)
+    if (page.open) {
       page.close();
-    else
+    } else {
       page.showModal();
+      page.scrollTop = 0;
+    }
   }
 
   /** Follows a message: from where it is sent to its delivery, and to where its answer is taken. */
@@ -163,7 +165,10 @@ class Controls {
     if (event.target.matches?.("input, textarea, select") || event.ctrlKey || event.metaKey ||
         event.altKey)
       return;
-    const act = this.keys()[event.key];
+    // over the help a key closes it, or is the browser's
+    const isHelp = document.getElementById("helping").open;
+    const act = isHelp ? { Escape: () => this.help(), "?": () => this.help() }[event.key] :
+                         this.keys()[event.key];
     if (!act) return;
     event.preventDefault();
     act(event);

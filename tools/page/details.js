@@ -42,6 +42,21 @@ function legendRows(palette) {
   });
 }
 
+/** The colors of states and depths, each with its name, beside what they color. */
+function colorNames(palette) {
+  const swatch = (color, letter, name) => {
+    const made = element("span"), sign = element("i", "", letter);
+    sign.style[letter ? "borderBottom" : "background"] = letter ? `3px solid ${color}` : color;
+    made.append(sign, name);
+    return made;
+  };
+  return [
+    ...STATES.map(({ letter, name }, code) => swatch(palette.states[code], letter, name)),
+    ...DEPTHS.map(({ name }, depth) => swatch(palette.depths[depth], "", `${depth} ${name}`)),
+    swatch(palette.amber, "", "another depth is granted"),
+  ];
+}
+
 class Details {
   constructor(view) {
     this.view = view;
@@ -53,6 +68,7 @@ class Details {
 
   show() {
     const { run, event } = this.view, texts = run.texts(event), { places } = this;
+    document.getElementById("colors").replaceChildren(...colorNames(this.view.palette));
     if (document.activeElement !== places.number) places.number.value = run.numbers[event];
     places.when.textContent = this.when();
     places.asked.textContent = texts.asked;

@@ -66,7 +66,9 @@ class Labels {
       context.lineTo(x, height);
       context.stroke();
       const label = scale.byClock ? timeText(place, step) : `${run.numbers[place]}`;
-      this.text(label, x + 3, height - 8, palette.faint);
+      // the last one is whole, too
+      const most = scale.width - context.measureText(label).width - 2;
+      this.text(label, Math.min(x + 3, most), height - 8, palette.faint);
     }
     this.found(height);
   }

@@ -1,7 +1,9 @@
 // Messages from the firmware to the power controller, and acknowledgements back: arrows, or where
 // there are too many of them how many are sent and come.
 
-const LINK_TOP = 22, LINK_BOTTOM = 72, MOST_ARROWS = 400, MOST_NAMES = 60;
+const LINK_TOP = 22, LINK_BOTTOM = 72, MOST_NAMES = 60;
+// how much room an arrow has, and how wide a bar is where they have less, in pixels
+const ARROW_ROOM = 12, BAR = 6;
 // how wide an event has to be, in pixels, for dashes and heads to be told apart
 const LEAST_STEP = 2;
 
@@ -20,7 +22,7 @@ class Link {
     this.context.fillRect(0, this.top, end, 1.5);
     this.context.fillRect(0, this.bottom, end, 1.5);
     const { comings } = this.run;
-    if (comings[this.last + 1] - comings[this.first] > MOST_ARROWS) {
+    if ((comings[this.last + 1] - comings[this.first]) * ARROW_ROOM > this.scale.width) {
       this.density();
     } else {
       const { messages, acks } = this.inSight();
@@ -126,12 +128,12 @@ class Link {
     }
   }
 
-  /** How many messages are sent, above, and how many are delivered, below, in each column. */
+  /** How many messages are sent, above, and how many are delivered, below, while a bar lasts. */
   density() {
-    const { run, scale, palette } = this, width = Math.ceil(scale.width) + 1;
+    const { run, scale, palette } = this, width = Math.ceil(scale.width / BAR) + 1;
     const [sent, delivered, wrong] = [0, 0, 0].map(() => new Uint16Array(width));
     for (let event = this.first; event <= this.last; event++) {
-      const x = Math.min(Math.max(Math.floor(scale.x(event)), 0), width - 1);
+      const x = Math.min(Math.max(Math.floor(scale.x(event) / BAR), 0), width - 1);
       sent[x] += run.sends[event];
       if (run.kinds[event] === 4) delivered[x]++;
       if (run.outcomes[event] >= IGNORED && run.kinds[event] >= 4) wrong[x]++;
@@ -144,10 +146,11 @@ class Link {
     this.bars(wrong, palette.wrong, this.bottom + 3, 9 / most);
   }
 
-  /** A bar in each column, from this line down, or up. */
+  /** The bars, from this line down, or up. */
   bars(counts, color, y, unit) {
     this.context.fillStyle = color;
-    counts.forEach((count, x) => count && this.context.fillRect(x, y, 1, unit * count));
+    counts.forEach(
+        (count, x) => count && this.context.fillRect(x * BAR, y, BAR - 2, unit * count));
   }
 
   /** The messages of the picked event, over all others. */

@@ -3,7 +3,7 @@
 
 const LINK_HEIGHT = 92, TITLE_HEIGHT = 20, GROUP_HEIGHT = 16, IDLE_HEIGHT = 12;
 // how high the row of a core is, so that its name is legible and no room is wasted
-const LEAST_HEIGHT = 9, MOST_HEIGHT = 46;
+const LEAST_HEIGHT = 9, MOST_HEIGHT = 110;
 // a board of at most this many cores is shown whole
 const SMALL_BOARD = 8;
 

@@ -37,14 +37,14 @@ class Chunk:
 
 def done(plan, number):
     """The result of a chunk, where what made it is still what the sweep began with."""
-    begun, used = time.time(), processor_seconds()
+    begun, used, before = time.time(), processor_seconds(), plans.identities(plan)
     found, seeds = Chunk(plan), plan.seeds_of(number)
     with tempfile.TemporaryDirectory(prefix="psci-sweep-") as room:
         kind = kinds.of(plan)
         for seed in seeds:
             for run in kind.runs(seed, room):
                 found.add(seed, run)
-    plans.look_at_files(plan)
+    plans.look_at_files(plan, before)
     cost = {"processor": round(processor_seconds() - used, 3), "seconds": round(time.time() - begun, 3),
             "machine": socket.gethostname()}
     return {"plan": plan.stamp, "first": seeds[0], "last": seeds[-1], "seeds": len(seeds), "sums": found.sums,

@@ -175,12 +175,14 @@ class Slurm(Farm):
                 subprocess.run(["scancel", f"--name={name}"], check=False)
                 raise
 
-    @staticmethod
-    def queued(name):
-        """How the tasks of a job array are, and what they wait for."""
+    def queued(self, name):
+        """How the tasks of a job array are, and what they wait for; of one that is held also, once, what lets it go on."""
         said = subprocess.run(["squeue", "-h", "-r", f"--name={name}", "-o", "%T %r"], capture_output=True, text=True,
                               check=False).stdout.splitlines()
         counts = Counter(it if it.startswith("PENDING") else it.split()[0] for it in said if it)
+        if name not in self.far.told and re.search("h[eo]ld|SPECIAL_EXIT", "".join(said), re.I):
+            self.far.told.add(name)
+            self.far.say(f"a task is held, and waits for `scontrol release jobname={name}`")
         return "".join(f"; {count} {what}" for what, count in sorted(counts.items()))
 
 

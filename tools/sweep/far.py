@@ -42,12 +42,12 @@ class Far:
         self.looked = time.time()
         self.news()
         if self.is_shown:
-            sys.stderr.write(f"\r\033[K{self.text()}")
-            sys.stderr.flush()
-        elif time.time() - self.said >= self.wait:
+            self.write(f"\r\033[K{self.text()}")
+        if time.time() - self.said >= self.wait:
             self.said, self.wait = time.time(), min(2 * self.wait, MOST_WAIT)
             more = self.more() if self.more else ""
-            self.write(f"{self.text()}{more}\n")
+            if not self.is_shown:
+                self.write(f"{self.text()}{more}\n")
 
     def news(self):
         """What came since it was looked last: results, and why chunks are not finished."""

@@ -77,11 +77,19 @@ def read(folder):
     return Plan(folder, text)
 
 
-def look_at_files(plan):
-    """Holds that chunks still have what the sweep began with."""
+def look_at_files(plan, before=None):
+    """Holds that chunks still have what the sweep began with, and that they had no other files meanwhile."""
     for name, wanted in plan.text["files"].items():
         if sum_of(f"{plan.folder}/{name}") != wanted:
             raise whole.Broken(f"{plan.folder}/{name} has changed since the sweep began")
+    if before and identities(plan) != before:
+        raise whole.Broken(f"{plan.folder}: a file of the sweep was exchanged while this chunk ran, and is back")
+
+
+def identities(plan):
+    """Which files chunks have: one that is exchanged, and is back, is another one, or has another time of change."""
+    found = [os.stat(f"{plan.folder}/{name}") for name in plan.text["files"]]
+    return [(it.st_dev, it.st_ino, it.st_ctime_ns) for it in found]
 
 
 def is_there(folder):

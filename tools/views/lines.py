@@ -40,7 +40,7 @@ class Lines:
     """How the rows of a window are written."""
 
     def __init__(self, window, width, color, changes):
-        self.nodes, self.board = window.nodes, window.board
+        self.window, self.nodes, self.board = window, window.nodes, window.board
         self.width, self.color, self.changes = max(NARROWEST, width), color, changes
         self.levels = [[node for node in self.nodes if node[0] == level]
                        for level in range(len(self.board.domains))]
@@ -82,8 +82,7 @@ class Lines:
     def entries(self, row, before):
         """What is not off, or not as granted, by its name; or what changed."""
         if before:
-            found = [self.entry(row, node) for node in self.nodes
-                     if row.look(node) != before.look(node)]
+            found = [self.entry(row, node) for node in self.window.changed(row, before)]
         else:
             found = [self.entry(row, node) for node in self.nodes
                      if not is_quiet(*row.look(node))] or ["all off"]

@@ -14,7 +14,7 @@ CPU_ON = (0x84000003, 0xC4000003)
 TARGETS = (*AFFINITY_INFO, *CPU_ON, 0x8400000D, 0xC400000D)
 NOBODY, INVALID_PARAMETERS = 2**64 - 1, -2
 
-DEC, HEX = r"(0|[1-9]\d{0,9})", r"(0x[0-9a-f]{1,16})"
+DEC, HEX = r"(0|[1-9]\d{0,19})", r"(0x[0-9a-f]{1,16})"
 CORE = rf"({DEC[1:-1]}|{HEX[1:-1]})"
 FRAME = rf"((?:[0-9a-f]{{2}}){{1,{FRAME_LEN}}})"
 ANSWER = (r"(return -?\d+|stop|enter 0x[0-9a-f]+ 0x[0-9a-f]+|resume|refused \d+)"
@@ -101,10 +101,12 @@ class Record:
         self.fresh = set()
         # of each core the start in whose stop it stands, if the record tells of that
         self.stops, self.tells_stops = {}, False
+        # whether it tells of each core that enters that it begins
+        self.tells_begins = False
         # of each core the lines with one of which it has to leave the monitor, by what it was answered last
         self.leaving = {}
-        # the mode in which the first core began
-        self.mode = None
+        # the mode in which the first core began, and how many lines of what happened there were
+        self.mode, self.many = None, 0
         for at, line in enumerate(lines, 1):
             line = line.rstrip("\r\n")
             if line and line[0] != "#" and not self.read(at, line):
@@ -116,9 +118,10 @@ class Record:
     def read(self, at, line):
         """Whether the record goes on."""
         word = line.partition(" ")[0]
-        if word in ("board", "mpidr", "tells"):
+        if word in ("board", "mpidr", "tells", "told"):
             self.head(at, line)
             return True
+        self.many += 1
         match = PATTERNS[word].fullmatch(line) if word in PATTERNS else None
         if match is None or self.board is None:
             raise Fault(f"line {at}: not a line of a record")
@@ -137,12 +140,18 @@ class Record:
         return True
 
     def head(self, at, line):
+        if re.fullmatch("told [0-9]+", line):
+            if int(line[5:]) != self.many:
+                raise Fault(f"line {at}: {line[5:]} lines were written before it, but {self.many} are here")
+            return
         if not self.events and self.board is None and line.startswith("board "):
             if self.translator and line != f"board {self.translator.machine.text}":
                 raise Fault(f"line {at}: this is not the board of the machine")
             self.board = line
         elif not self.events and self.board is not None and line == "tells stands":
             self.tells_stops = True
+        elif not self.events and self.board is not None and line == "tells begins":
+            self.tells_begins = True
         elif not self.events and self.board is not None and re.fullmatch(f"mpidr( {HEX})+", line):
             words = [int(it, 16) for it in line.split()[1:]]
             if len(words) != len(self.cores):
@@ -200,6 +209,8 @@ class Record:
         return self.words.get(target >> 8 * level << 8 * level if level == self.highest else target, NOBODY)
 
     def call(self, core, x0, x1, x2, x3, answer, frame):
+        if self.has_not_begun(core):
+            raise Impossible("it has not begun")
         self.fresh.clear()
         word = int(x0, 16) % 2**32
         self.answered(core, word, answer)
@@ -331,9 +342,12 @@ class Record:
         entered nothing is said: the machine may be off; and nothing of those that were started too late, as the life
         was about to be ended."""
         cores = [core for core, by in sorted(self.found.items())
-                 if (core, *by) not in self.entered and core not in late]
+                 if core not in late and ((core, *by) not in self.entered or self.has_not_begun(core))]
         cores = cores if any(life == self.life for _, life, _, _ in self.entered) else []
         self.absent += [(self.life, cores)] if cores else []
+
+    def has_not_begun(self, core):
+        return self.tells_begins and self.leaving.get(str(core), ("",))[0] == "begins"
 
     def started(self, core, start, cause):
         self.starts[core], self.found[core] = start, (self.life, start, cause)

@@ -3,7 +3,9 @@
 A row of a large board is long, and most of it is as in the row before. So the lists of a line are
 compared as text, and read only where they changed and somebody asks.
 """
+import itertools
 import json
+import operator
 
 # the letter of each state, and what it means, as the legend of `show` has them
 STATES = {
@@ -78,6 +80,11 @@ class Listed:
         return self.read[0]
 
 
+def differing(values, before):
+    """The places at which two lists differ."""
+    return itertools.compress(itertools.count(), map(operator.ne, values, before))
+
+
 class Row:
     """An event, and what holds after it: the members of its object, by their names."""
 
@@ -125,6 +132,18 @@ class Row:
     def look(self, node):
         """What is shown of a core or power domain: the core's state, and the depths."""
         return (self.cores[node[1]] if node[0] == 0 else None, *self.depths_of(node))
+
+    def changed(self, last):
+        """The cores and power domains of which something that is shown is not as in this row, in their order: those
+        alone whose list is another one are looked at."""
+        if self.is_like(last):
+            return []
+        found = {(0, at) for at in differing(self.cores, last.cores)}
+        for lists, before in ((self.depths, last.depths), (self.granted or self.depths, last.granted or last.depths)):
+            if lists is not before:
+                found.update((level, at) for level, (values, old) in enumerate(zip(lists, before)) if values != old
+                             for at in differing(values, old))
+        return sorted(found)
 
     def is_like(self, last):
         """Whether all that is shown of the board is as it was."""

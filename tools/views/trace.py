@@ -12,6 +12,8 @@ import json
 CORES, DOMAINS, LINK = 1, 2, 3
 # the tracks of the link
 CONTROLLER, FIRMWARE = 1, 2
+# writes a slice: `json.dumps` would make an encoder for each
+encoded = json.JSONEncoder(separators=(",", ":")).encode
 DEPTHS = ("on", "standby", "retention", "power-down")
 # the names of colors that viewers have for states
 COLORS = {"running": "good", "started": "thread_state_runnable", "pending": "yellow",
@@ -27,7 +29,7 @@ class Trace:
         self.between, self.open, self.last = "\n", {}, None
 
     def put(self, **members):
-        self.out.write(self.between + json.dumps(members, separators=(",", ":")))
+        self.out.write(self.between + encoded(members))
         self.between = ",\n"
 
     def time(self, number):
@@ -57,9 +59,7 @@ class Trace:
     def states(self, row):
         """The slices of what changed end, and others begin: of a slice the state and both depths hold for its whole
         length."""
-        if self.last is not None and row.is_like(self.last):
-            return
-        for node in self.window.nodes:
+        for node in self.window.changed(row, self.last):
             state, depth, granted = row.look(node)
             looks = state or DEPTHS[depth], depth, granted
             if node not in self.open or self.open[node][0] != looks:

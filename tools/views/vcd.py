@@ -66,9 +66,7 @@ class Changes:
         """What an event changes."""
         self.put("event", row.number)
         self.put("life", row.life or 0)
-        if last is not None and row.is_like(last):
-            return
-        for node in self.window.nodes:
+        for node in self.window.changed(row, last):
             state, depth, granted = row.look(node)
             if state:
                 self.put((node, "state"), ord(STATES[state][0]))

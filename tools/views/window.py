@@ -45,6 +45,7 @@ class Window:
         # how many of the run's rows are in it, and whether the run goes on behind it
         self.cores, self.count, self.goes_on = words.cores, 0, False
         self.nodes = [node for node in board.nodes if self.has_node(node)]
+        self.known = frozenset(self.nodes)
         # the core of each message, and of the message of each acknowledgement
         self.messages, self.replies = {}, {}
 
@@ -82,7 +83,8 @@ class Window:
 
     def shows_change(self, row, last):
         """Whether something that is shown of these cores changed."""
-        if last is None:
-            return True
-        return not row.is_like(last) and any(row.look(node) != last.look(node)
-                                             for node in self.nodes)
+        return last is None or bool(self.changed(row, last))
+
+    def changed(self, row, last):
+        """The cores and power domains of which an event changed something since this row; all of them without one."""
+        return [node for node in row.changed(last) if node in self.known] if last else self.nodes

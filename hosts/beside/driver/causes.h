@@ -13,21 +13,23 @@ static const char *plain_upper(const beside *b, uint64_t x[4], int at) {
     return words[at];
 }
 
+/* Whether a core has the field of a target that begins at this bit, below the fields above; or none has those. */
+static bool has_field(const beside *b, uint64_t target, int shift) {
+    uint64_t least = UINT64_MAX;
+    for (uint32_t core = 0; core < b->board.cores; core++) {
+        uint64_t other = (b->board.affinity[core] ^ target) >> shift;
+        least = other < least ? other : least;
+    }
+    return !least || least > 255;
+}
+
 /* Fields 0 to 3 of a target are Aff0 to Aff3, and 4 is what lies outside. */
 static const char *plain_target(const beside *b, uint64_t x[4], int field) {
-    static const char *const words[] = {"no such Aff0", "no such Aff1", "no such Aff2", "Aff3 set",
-                                        "a bit outside the fields set"};
+    static const char *const words[] = {"no such Aff0", "no such Aff1", "no such Aff2", "Aff3 set", "a bit outside the fields set"};
     static const int shifts[] = {0, 8, 16, 32};
     const uint64_t outside = ~UINT64_C(0xff00ffffff);
-    uint64_t target = is_narrow(x[0], 1) ? (uint32_t)x[1] : x[1], above = 0;
-    if (!has_target(x[0]))
-        return NULL;
-    if (field < 4) {
-        above = ~UINT64_C(0) << shifts[field] & ~outside;
-        for (uint32_t core = 0; core < b->board.cores; core++)
-            if (((b->board.affinity[core] ^ target) & above) == 0)
-                return NULL;
-    } else if (!(target & outside))
+    uint64_t target = is_narrow(x[0], 1) ? (uint32_t)x[1] : x[1];
+    if (!has_target(x[0]) || (field < 4 ? has_field(b, target & ~outside, shifts[field]) : !(target & outside)))
         return NULL;
     x[1] &= field < 4 ? ~(UINT64_C(0xff) << shifts[field]) : ~outside;
     return words[field];
@@ -59,8 +61,7 @@ static const char *plain_level(const beside *b, uint64_t x[4], int unused) {
 }
 
 static const char *plain_state(const beside *b, uint64_t x[4], int kind) {
-    static const char *const words[] = {"reserved bits of the state", "a level above the core",
-                                        "a power-down state", "a state"};
+    static const char *const words[] = {"reserved bits of the state", "a level above the core", "a power-down state", "a state"};
     const uint64_t bits[] = {b->profile->is_extended ? 0xbfff0000 : 0xfcfe0000, 0x0300fff0,
                              b->profile->is_extended ? 0x40000000 : 0x00010000, ~UINT64_C(1)};
     if (plain_word(x[0]) != CPU_SUSPEND || !(x[1] & bits[kind]))
@@ -115,22 +116,28 @@ static bool agree_on(beside *b, const event *e, bool lacks, did *ours, did *thei
     return agree(b, e, ours, &untold);
 }
 
-/* What is left of a call that differs: what both do of it, whether anything is odd about it; and where it is one
- * thing without which they agree, whether a side does the same without that, whatever core is the target. */
+/* What is left of a call that differs: what both do of it, what is odd about it, the first of these if there are more,
+ * and what it comes of before it; and where it is one odd thing without which they agree, whether a side does the same
+ * without that, whatever core is the target. */
 struct cause {
     did ours, theirs;
-    bool is_odd, our_same, their_same;
+    const char *odd, *earlier;
+    bool our_same, their_same;
 };
+
+#include "tries.h"
 
 enum { ODDS = sizeof odds / sizeof *odds, MOST_TARGETS = 8 };
 
 /* This call of core 0 as the first one of a list. */
 static void first_on(beside *b, const event *e, did *ours, did *theirs) {
     event first = *e;
+    struct psci_frame message = b->messages[0];
     first.number = 0;
     begin(b);
     our_side(b, &first, ours);
     their_side(b, &first, 0, theirs);
+    b->messages[0] = message;
 }
 
 /* Whether a call and a plain one have the same outcome on each side. */
@@ -212,17 +219,25 @@ static void put_level(beside *b, const event *e, const char *odd) {
         put(b->difference.key, sizeof b->difference.key, " above the core");
 }
 
+/* All that is odd about a call; fields of a target are one thing where they are more. */
 static void put_all_odds(beside *b, const event *e, struct cause *cause) {
     struct psci_beside_difference *d = &b->difference;
+    const char *found[ODDS];
+    size_t many = 0, targets = 0;
     for (size_t at = 0; at < ODDS; at++) {
         event less = *e;
         const char *words = odds[at].plain(b, less.x, odds[at].which);
-        if (words && !cause->is_odd)
-            put_level(b, e, words);
-        if (words)
-            put(d->key, sizeof d->key, "%s %s", cause->is_odd ? "," : ":", words);
-        cause->is_odd |= words != NULL;
+        if (!words || (is_of_target(words) && targets++))
+            continue;
+        found[many++] = words;
     }
+    for (size_t at = 0; at < many; at++) {
+        if (!at)
+            put_level(b, e, found[at]);
+        put(d->key, sizeof d->key, "%s %s", at ? "," : ":",
+            is_of_target(found[at]) && targets > 1 ? "no such target" : found[at]);
+    }
+    cause->odd = many ? found[0] : NULL;
 }
 
 /* Whether it differs for want of memory alone; where not, what both do with memory. */
@@ -246,12 +261,40 @@ static bool is_of_states(const char *odd) {
            !strcmp(odd, "a state");
 }
 
+/* Whether nothing is odd about a call, or of one that hangs on other cores nothing but its states. */
+static bool may_be_of_earlier(const beside *b, const event *e, const char *one) {
+    for (size_t at = 0; has_target(e->x[0]) && at < ODDS; at++) {
+        event less = *e;
+        if (odds[at].plain(b, less.x, odds[at].which))
+            return false;
+    }
+    return is_of_states(one);
+}
+
+/* Without its odd entry point, where the call differs without that, too. */
+static void take_entry_out(beside *b, event *e, struct cause *cause) {
+    event less = *e;
+    did ours, theirs;
+    bool is_odd = plain_entry(b, less.x, 1);
+    is_odd |= plain_entry(b, less.x, 0) != NULL;
+    if (!is_odd || agree_on(b, &less, b->then.lacks, &ours, &theirs))
+        return;
+    *e = less;
+    cause->ours = ours;
+    cause->theirs = theirs;
+}
+
 /* Adds to the key what is odd about a call, and leaves of it what matters. */
 static void put_odds(beside *b, event *e, struct cause *cause) {
     struct psci_beside_difference *d = &b->difference;
+    take_entry_out(b, e, cause);
     const char *one = is_for_memory(b, e, cause) ? "memory is short" : one_odd(b, e, false, cause);
-    if (!one) {
+    if (!one)
         take_out(b, e, cause);
+    keep(b, true);
+    if (may_be_of_earlier(b, e, one) && (cause->earlier = of_earlier(b, e, cause)))
+        return;
+    if (!one) {
         one = one_odd(b, e, false, cause);
         one = one ? one : one_odd(b, e, true, cause);
     }
@@ -263,7 +306,7 @@ static void put_odds(beside *b, event *e, struct cause *cause) {
         put(d->key, sizeof d->key, "%s%s", *d->key ? ": " : "any function: ", one);
     else
         put_all_odds(b, e, cause);
-    cause->is_odd |= one != NULL;
+    cause->odd = one ? one : cause->odd;
     keep(b, true);
     if (is_of_states(one))
         put_beside(b, e);

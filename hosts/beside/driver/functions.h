@@ -10,31 +10,32 @@ enum {
     CPU_ON = 0x84000003u,
     AFFINITY_INFO = 0x84000004u,
     FEATURES = 0x8400000au,
+    SYSTEM_SUSPEND = 0x8400000eu,
     SET_SUSPEND_MODE = 0x8400000fu,
     SYSTEM_RESET2 = 0x84000012u,
 };
 
 /* the names of functions from 0x84000000 on, whether ours or not, and which definition says what ours answer,
- * where that is not Calls.function_outcome */
+ * where that is not Answer.function_outcome */
 static const struct {
     const char *name, *clause;
 } names[] = {
-    {"VERSION", "Calls.version"},
-    {"CPU_SUSPEND", "CpuSuspend.cpu_suspend"},
-    {"CPU_OFF", "CpuOff.cpu_off"},
-    {"CPU_ON", "CpuOn.cpu_on"},
-    {"AFFINITY_INFO", "AffinityInfo.affinity_info"},
+    {"VERSION", "Answer.version"},
+    {"CPU_SUSPEND", "PowerCalls.cpu_suspend"},
+    {"CPU_OFF", "PowerCalls.cpu_off"},
+    {"CPU_ON", "PowerCalls.cpu_on"},
+    {"AFFINITY_INFO", "PowerCalls.affinity_info"},
     {"MIGRATE", NULL},
-    {"MIGRATE_INFO_TYPE", "Calls.no_migration"},
+    {"MIGRATE_INFO_TYPE", "Answer.no_migration"},
     {"MIGRATE_INFO_UP_CPU", NULL},
-    {"SYSTEM_OFF", "SystemCalls.system_message"},
-    {"SYSTEM_RESET", "SystemCalls.system_message"},
+    {"SYSTEM_OFF", "PowerCalls.system_message"},
+    {"SYSTEM_RESET", "PowerCalls.system_message"},
     {"FEATURES", NULL},
     {"CPU_FREEZE", NULL},
     {"CPU_DEFAULT_SUSPEND", NULL},
     {"NODE_HW_STATE", "NodeHwState.node_hw_state"},
-    {"SYSTEM_SUSPEND", "SystemCalls.system_suspend"},
-    {"SET_SUSPEND_MODE", "SuspendMode.set_suspend_mode"},
+    {"SYSTEM_SUSPEND", "PowerCalls.system_suspend"},
+    {"SET_SUSPEND_MODE", "PowerCalls.set_suspend_mode"},
     {"STAT_RESIDENCY", NULL},
     {"STAT_COUNT", NULL},
     {"SYSTEM_RESET2", "SystemCalls.system_reset2"},
@@ -63,7 +64,7 @@ const char *psci_beside_name(uint64_t x0) {
 
 static const char *clause_of(uint64_t x0) {
     const char *named = is_named(x0) ? names[plain_word(x0) - VERSION].clause : NULL;
-    return our_place(x0) == OUR_FUNCTIONS ? NULL : named ? named : "Calls.function_outcome";
+    return our_place(x0) == OUR_FUNCTIONS ? NULL : named ? named : "Answer.function_outcome";
 }
 
 static bool is_ours(uint32_t word) {

@@ -1,5 +1,8 @@
 /* Part of beside.c: the states that the platform is told as a core stops, where they differ, and what is beside it. */
 
+static const char pending[] = "ON_PENDING", as_if_off[] = "what is ON_PENDING is taken for OFF",
+                  as_if_on[] = "what is ON_PENDING is taken for ON";
+
 /* How awake a core is beside one that stops: whether it sleeps less deep counts up to a level. */
 enum { IS_OFF, AS_DEEP, LESS_DEEP, IS_PENDING, IS_ON };
 
@@ -23,7 +26,7 @@ static int awake(beside *b, uint32_t core, uint32_t level, uint8_t asked) {
 
 /* The words for the most awake of the other cores below a domain that one asks down. */
 static const char *beside_it(beside *b, const event *e, uint32_t level, uint8_t asked) {
-    static const char *const words[] = {"OFF", "asleep as deep", "asleep less deep", "ON_PENDING", "ON"};
+    const char *const words[] = {"OFF", "asleep as deep", "asleep less deep", pending, "ON"};
     uint64_t mine = b->board.affinity[e->number];
     int most = IS_OFF;
     for (uint32_t core = 0; core < b->board.cores; core++) {
@@ -34,54 +37,30 @@ static const char *beside_it(beside *b, const event *e, uint32_t level, uint8_t 
     return words[most];
 }
 
-/* What a core asks of a level, where a core that is ON_PENDING is taken for one that is OFF. */
-static uint8_t asks_if_off(beside *b, uint32_t core, uint32_t level) {
-    uint32_t status = psci_status(&b->firmware, 0, core);
-    bool is_asleep = b->now.place[core] != RUNNING && b->now.wakes[core];
-    return is_asleep ? b->now.asks[core][level] : status == 0 && b->now.place[core] != STOPPED ? 0 : 3;
-}
-
-/* Whether they tell what we would, were each core OFF that is ON_PENDING: of a call before which both sides
- * are, where the platform coordinates. */
-static bool is_as_if_off(beside *b, const event *e, const did *theirs) {
-    uint8_t asked[4];
-    uint64_t mine = b->board.affinity[e->number];
-    asked_by(b, e, asked);
-    for (uint32_t level = 0; level <= b->board.height; level++)
-        for (uint32_t core = 0; core < b->board.cores; core++) {
-            bool is_below = (b->board.affinity[core] ^ mine) >> 8 * level == 0;
-            uint8_t other = core == e->number || !is_below ? asked[level] : asks_if_off(b, core, level);
-            asked[level] = other < asked[level] ? other : asked[level];
-        }
-    return !b->now.mode && memcmp(asked, theirs->depths, b->board.height + 1) == 0;
-}
-
-static bool is_any_pending(beside *b) {
-    for (uint32_t core = 0; core < b->board.cores; core++)
-        if (psci_status(&b->firmware, 0, core) == 2)
-            return true;
-    return false;
-}
-
 /* The core stops on both sides, and the platform is told other states. */
 static bool is_told_otherwise(const did *ours, const did *theirs) {
     return ours->what == PSCI_STOP && theirs->what == PSCI_STOP && theirs->told;
 }
 
+/* How deep a core sleeps is part of the way in which a cause shows, and not of its name. */
+static const char *in_short(const char *beside) { return strncmp(beside, "asleep", 6) ? beside : "asleep"; }
+
 static void put_told(beside *b, const event *e, const did *ours, const did *theirs) {
     char *key = b->difference.key;
     size_t size = sizeof b->difference.key;
-    if (is_any_pending(b) && is_as_if_off(b, e, theirs)) {
-        put(key, size, ": states are told as if what is ON_PENDING were OFF");
-        return;
-    }
     uint32_t level = 0;
     while (level < b->board.height && ours->depths[level] == theirs->depths[level])
         level++;
-    put(key, size, ": other states are told beside what is %s: ours", beside_it(b, e, level, theirs->depths[level]));
-    put_depths(b, key, size, ours->depths);
-    put(key, size, ", theirs");
-    put_depths(b, key, size, theirs->depths);
+    const char *beside = beside_it(b, e, level, theirs->depths[level]);
+    bool is_deeper = ours->depths[level] < theirs->depths[level];
+    if (is_deeper && !strcmp(beside, pending))
+        put(b->difference.cause, size, "%s", as_if_off);
+    else
+        put(b->difference.cause, size, "%s: %s beside what is %s", key, is_deeper ? "deeper" : "less deep", in_short(beside));
+    for (; level <= b->board.height; level++)
+        if (ours->depths[level] != theirs->depths[level])
+            put(key, size, ": level %" PRIu32 " %s", level, ours->depths[level] < theirs->depths[level] ? "deeper" : "less deep");
+    put(key, size, " beside what is %s", beside);
 }
 
 /* In OS-initiated mode a suspend hangs on what is beside it, up to the highest level that it asks down. */
@@ -91,6 +70,13 @@ static void put_beside(beside *b, const event *e) {
     asked_by(b, e, asked);
     while (level && !asked[level])
         level--;
-    if (b->now.mode && plain_word(e->x[0]) == CPU_SUSPEND && level)
-        put(b->difference.key, sizeof b->difference.key, ", beside what is %s", beside_it(b, e, level, asked[level]));
+    if (!b->now.mode || plain_word(e->x[0]) != CPU_SUSPEND || !level)
+        return;
+    const char *beside = beside_it(b, e, level, asked[level]);
+    put(b->difference.key, sizeof b->difference.key, ", beside what is %s", beside);
+    if (!strcmp(beside, pending))
+        put(b->difference.cause, sizeof b->difference.cause, "%s", as_if_off);
+    else
+        put(b->difference.cause, sizeof b->difference.cause, "CPU_SUSPEND in OS-initiated mode beside what is %s",
+            in_short(beside));
 }

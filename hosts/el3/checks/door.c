@@ -20,8 +20,8 @@ uint32_t taken;
 void take_ack(void) {}
 void board_comes_out(void) {}
 void board_waits(void) { wait_for_interrupt(); }
-void gic_sleeps(void) {}
-void gic_rises(void) {}
+uint64_t gic_sleeps(void) { return 0; }
+void gic_rises(uint64_t groups) { (void)groups; }
 void send(const struct psci_frame *message) { (void)message; }
 void serve_link(void) {}
 void say(const char *form, ...) { (void)form; }
@@ -56,6 +56,8 @@ static void step(void) {
 }
 
 void gic_bell_alone(void) { step(); }
+void gic_opens(void) {}
+void host_write(const char *name, uint64_t value) { (void)name, (void)value; }
 void host_relax(void) { step(); }
 bool gic_wakes(void) {
     step();

@@ -25,7 +25,7 @@ static const uint64_t mpidrs[] = {
     SCP_MPIDR,
 #endif
 };
-static uint32_t is_started, dying, arrived;
+static uint32_t is_started, dying, arrived, is_pressed;
 /* Of each number the core that is rung by it, once it has come out of reset. */
 static struct cpu *bells[THREADS];
 static volatile uint32_t pins[1024], other;
@@ -67,6 +67,9 @@ static _Noreturn void come_out(void) {
     if (++arrived == THREADS) {
         arrived = 0;
         reset_devices();
+        if (is_pressed)
+            lose_caches();
+        is_pressed = 0;
         PUT(dying, 0);
         pthread_cond_broadcast(&all_here);
     } else {
@@ -86,6 +89,7 @@ void look(void) {
 
 void press(void) {
     PUT(life.presses, GET(life.presses) + 1);
+    is_pressed = 1;
     PUT(dying, 1);
 }
 
@@ -161,6 +165,8 @@ void host_wait(void) {
 
 /* What stand.S does, without caches; that takes some time. */
 void stand(const struct last_word *last, enum caches caches) {
+    if (me->is_irq_on && sides[me->number].stop != PSCI_PORT_SUSPENDED)
+        is_wrong("an interrupt would end the wait of a core that is off", me->number);
     if (draw(3) == 0)
         nap(draw(1000));
     cleans(caches);
@@ -188,6 +194,7 @@ void gic_bell_alone(void) {
     me->is_irq_on = false;
     executes();
 }
+void gic_opens(void) { me->is_irq_on = true; }
 bool gic_wakes(void) { return GET(me->irq) && me->is_irq_on; }
 
 struct bell gic_bell(unsigned core) { return (struct bell){0, 1 + core}; }

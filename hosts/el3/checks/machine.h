@@ -24,6 +24,7 @@ void host_relax(void);
 uint64_t *host_place(void);
 
 #define mmio32(address) (*host_device(address))
+#define MARK(at) ((void)0)
 #define read_register(name) host_read(name)
 #define write_register(name, value) host_write(name, value)
 

@@ -13,7 +13,7 @@
 enum { UNKNOWN_VALUE = 0x5a5a5a5a };
 extern uint32_t port_start[], port_end[];
 
-uint64_t registers[KEYS], sizes[8], left[31], word, said;
+uint64_t registers[KEYS], sizes[8], left[31], word, said, rung;
 bool written[KEYS];
 struct event events[MOST];
 unsigned many, wrong, tried;
@@ -51,7 +51,7 @@ static void on_write(unsigned key, uint64_t value) {
 }
 
 static void on_system(unsigned key, uint64_t value) {
-    add(key, value);
+    add(key, key == DSB ? (word == said) + 2ull * (rung != 0) : value);
     if (key == CISW && word == said)
         is_wrong("its last word stands before its caches are clean", value);
 }
@@ -128,6 +128,27 @@ void power_on(uint64_t midr, uint64_t mpidr, unsigned csv2, unsigned ssbs) {
     registers[MMFR2] = 0;
     registers[ECTLR] = registers[PWRCTLR] = registers[ACTLR] = registers[A73_REG] = registers[A75_ACTLR] = 0;
     many = 0;
+}
+
+/* Behind an event the second one has to come before the third does; where none is named, at once. */
+static const struct { uint32_t behind, needs, before; } barriers[] = {
+    {SCTLR | WRITE, ISB, 0},           {SCR | WRITE, ISB, ALLE2},        {SCR | WRITE, ISB, ALLE1},
+    {TLBI, DSB, SCTLR | WRITE},        {ALLE2, DSB, SCTLR | WRITE},      {ALLE1, DSB, SCTLR | WRITE},
+    {IALLU, DSB, SCTLR | WRITE},       {TLBI, ISB, SCTLR | WRITE},       {IALLU, ISB, SCTLR | WRITE},
+    {CISW, DSB, ECTLR | WRITE},        {CISW, DSB, WFI},                 {ECTLR | WRITE, ISB, DSB},
+    {ECTLR | WRITE, ISB, CISW},        {ECTLR | WRITE, ISB, SCTLR | WRITE}, {CSSELR | WRITE, ISB, CCSIDR},
+    {PWRCTLR | WRITE, ISB, WFI},       {OSDLR | WRITE, ISB, WFI},        {SGI | WRITE, DSB, WFI},
+};
+
+void look_at_barriers(void) {
+    for (unsigned k = 0; k < sizeof barriers / sizeof *barriers; k++)
+        for (unsigned at = find(barriers[k].behind, 0); at < many; at = find(barriers[k].behind, at + 1)) {
+            if (at + 1 < many && events[at + 1].key == events[at].key)
+                continue; /* the last of a row */
+            unsigned end = barriers[k].before ? find(barriers[k].before, at + 1) : at + 2;
+            if (end < many && find(barriers[k].needs, at + 1) >= end)
+                is_wrong("a barrier is missing behind", barriers[k].behind);
+        }
 }
 
 /* The first event of a key, or of its write, from there on. */

@@ -1,5 +1,6 @@
 /* The port's assembly as a program, on processors that replaced.c plays: resets, the way from the normal world and
- * back, stops, what is said of workarounds and let through of features, and a GICv3's redistributors. */
+ * back, stops, what is said of workarounds and let through of features, a GICv3's redistributors, and EL3's map. */
+#define _GNU_SOURCE
 #include "silicon.h"
 
 #include "context.h"
@@ -47,19 +48,26 @@ void on_reset(void) {
     siglongjmp(back, RESET);
 }
 
+extern char map[];
+
 /* Nothing of before is left that the port counts on, and all is in its order. */
 static void look_at_reset(const struct processor *it) {
-    static const unsigned set[] = {SCTLR, SCR, CPTR, MDCR, TTBR, TRANSLATION, MAIR, VBAR, CNTFRQ};
+    const struct { unsigned key; uint64_t value; } set[] = {
+        {SCTLR, 0x30c5183d}, /* MMU, caches, alignment of stacks */
+        {SCR, 0x535},        /* of the normal world, AArch64, HVC; FIQs alone come here */
+        {CPTR, 0}, {MDCR, 0}, {TTBR, (uint64_t)map}, {MAIR, 0x04ff}, {CNTFRQ, 62500000},
+        {TRANSLATION, 0x80803520}, /* 4 GB by pages of 4 KB, walks inner shareable and write-back */
+        {VBAR, (uint64_t)it->vectors},
+    };
     unsigned caches = find(SCTLR | WRITE, 0);
     for (unsigned k = 0; k < sizeof set / sizeof *set; k++)
-        if (!written[set[k]])
-            is_wrong("a register is left as it was", set[k]);
-    if (registers[VBAR] != (uint64_t)it->vectors)
-        is_wrong("other vectors", registers[VBAR]);
-    if (!(registers[SCR] & EA_BIT))
-        is_wrong("an SError does not come to EL3", registers[SCR]);
-    if (find(TLBI, 0) > caches || find(IALLU, 0) > caches)
+        if (registers[set[k].key] != set[k].value)
+            is_wrong("a register behind a reset", set[k].key);
+    if (find(TLBI, 0) > caches || find(ALLE2, 0) > caches || find(ALLE1, 0) > caches || find(IALLU, 0) > caches)
         is_wrong("its TLBs and its instructions are those of before", 0);
+    if (find(SCR | WRITE, 0) > find(ALLE2, 0) || find(SCR | WRITE, 0) > find(ALLE1, 0))
+        is_wrong("nobody has said yet whose EL2 and EL1 forget", find(SCR | WRITE, 0));
+    look_at_barriers();
     if (it->key && (registers[it->key] != it->bits || find(it->key | WRITE, 0) > caches))
         is_wrong("its errata", registers[it->key]);
     bool has_smpen = it->leaves == SMPEN || it->leaves == PREFETCH;
@@ -123,6 +131,15 @@ static void look_at_way(const char *table) {
     bool is_by_mmu = on < many && !(events[off].value & M_BIT) && events[on].value & M_BIT && find(ISB, off) < on;
     if (is_by_mmu != (table == vectors_mmu) || (dsb < many) != (table == vectors_loop))
         is_wrong("what a processor forgets on the way", is_by_mmu);
+    look_at_barriers();
+}
+
+/* 32 turns of a branch that is taken, and one back. */
+static void try_loop(void) {
+    static const uint32_t loop[] = {0xd2800401, 0x14000001, 0xf1000421, 0x54ffffc1};
+    for (unsigned offset = 0x400; offset <= 0x500; offset += 0x100, tried++)
+        if (!memmem(vectors_loop + offset, 128, loop, sizeof loop))
+            is_wrong("what makes a predictor forget", offset);
 }
 
 static int end_of(const char *vector) {
@@ -192,6 +209,7 @@ static void try_redistributors(void) {
     for (unsigned k = 0; k <= CORES; k++) {
         mmio32(GICR + 0x20000 * k + 0xc) = mpidrs[CORES - k];
         mmio32(GICR + 0x20000 * k + 0x14) = 6;
+        memset((void *)(uintptr_t)(GICR + 0x20000 * k + 0x10400), 0xff, 32);
     }
     pthread_create(&follower, NULL, follow, NULL);
     for (number = 0; number < CORES; number++) {
@@ -201,10 +219,18 @@ static void try_redistributors(void) {
         gic_start_core(number);
         if (*waker)
             is_wrong("a redistributor sleeps as its core starts", *waker);
-        gic_sleeps();
+        for (unsigned id = BELL; id <= TIMER; id += TIMER - BELL)
+            if (*((uint8_t *)waker + 0x103ec + id))
+                is_wrong("the priority of an interrupt of EL3 is unknown", id);
+        registers[GROUP0] = registers[GROUP1] = 1;
+        uint64_t groups = gic_sleeps();
+        if (registers[GROUP0] || registers[GROUP1])
+            is_wrong("a redistributor sleeps with groups on", number);
         if (*waker != 6)
             is_wrong("a redistributor is awake as its core goes", *waker);
-        gic_rises();
+        gic_rises(groups);
+        if (registers[GROUP0] != 1 || registers[GROUP1] != 1)
+            is_wrong("a core that comes back hears nothing", number);
         if (*waker)
             is_wrong("a redistributor sleeps as its core comes back", *waker);
         mmio32(GICR + 0x20000 * (CORES - number)) = 8; /* RWP */
@@ -213,6 +239,32 @@ static void try_redistributors(void) {
             is_wrong("what is written into a redistributor is not waited for", number);
         tried++;
     }
+}
+
+/* A core whose number takes all fields, and one above 15 in its row, as ICC_SGI0R_EL1 and TYPER name them. */
+static void try_bells(void) {
+    static const struct { uint64_t mpidr, rings; uint32_t typer; } bells[] = {
+        {0x100020345, 0x000140020f030020, 0x01020345}, {0x1f, 0x000010000f008000, 0x1f}};
+    for (unsigned k = 0; k < 2; k++, tried++) {
+        power_on(0x411fd070, bells[k].mpidr, 0, 0);
+        mmio32(GICR + 0xc) = bells[k].typer;
+        gic_start_core(0);
+        if (gic_bell(0).value != bells[k].rings)
+            is_wrong("which core a bell rings", gic_bell(0).value);
+    }
+}
+
+/* None ends the wait of a core that is off. */
+void v2_gic_bell_alone(void), v2_gic_opens(void);
+static void try_groups(void) {
+    power_on(0x411fd070, 0, 0, 0);
+    v2_gic_opens(), gic_opens();
+    if (mmio32(GICC) != 0xb || registers[GROUP1] != 1)
+        is_wrong("what wakes a core is not heard", mmio32(GICC));
+    v2_gic_bell_alone(), gic_bell_alone();
+    if (mmio32(GICC) != 9 || registers[GROUP1])
+        is_wrong("an interrupt ends the wait of a core that is off", mmio32(GICC));
+    tried++;
 }
 
 /* A distributor that a reset of the cores has left as it was: none of its interrupts is on, pending or active. */
@@ -228,18 +280,74 @@ static void try_distributor(void (*start)(void)) {
     tried++;
 }
 
-char map[1];
+/* The map of EL3: each page of the machine by itself, as it is and by what Arm's manual has for what stands there. */
+enum { DEVICE = 1 << 2, NS = 1 << 5, AP1 = 1 << 6, READ_ONLY = 1 << 7, INNER = 3 << 8, USED = 1 << 10 };
+#define NEVER BIT(54)
+#define OUTPUT (BIT(48) - BIT(12))
+
+static uint64_t wanted_of(uint64_t page) {
+    bool is_stack = page >= STACKS && page < STACKS_END;
+    if (page < 0x08000000)
+        return USED | AP1 | INNER | READ_ONLY;
+    if (page < 0x0e000000)
+        return USED | AP1 | DEVICE | NEVER;
+    if (page < 0x0f000000)
+        return is_stack && (page - STACKS) % STACK < GUARD ? 0 : USED | AP1 | INNER | NEVER;
+    return page >= 0x40000000 && page < 0x80000000 ? USED | AP1 | INNER | NEVER | NS : 0;
+}
+
+/* By the tables, from where TCR has a walk begin. */
+static uint64_t entry_of(uint64_t page, unsigned *shift) {
+    const uint64_t *table = (const void *)map;
+    unsigned width = 64 - (TCR & 63);
+    for (*shift = 39; *shift >= width; *shift -= 9) {
+    }
+    while (*shift > 12 && (table[page >> *shift & 511] & 3) == 3)
+        table = (const void *)(table[page >> *shift & 511] & OUTPUT), *shift -= 9;
+    return table[page >> *shift & 511];
+}
+
+static void try_map(void) {
+    for (uint64_t page = 0; page < BIT(64 - (TCR & 63)); page += 4096) {
+        unsigned shift;
+        uint64_t entry = entry_of(page, &shift), wanted = wanted_of(page), is = shift == 12 ? 3 : 1;
+        if (wanted ? entry != ((page & -BIT(shift)) | wanted | is) : entry & 1)
+            is_wrong("a page in the map of EL3", page);
+    }
+    tried++;
+}
+
+/* By the least line of data caches, and in memory as it goes on. */
+void clean_these(const void *first, const void *end);
+
+static void try_cleaning(void) {
+    unsigned lines = 0;
+    power_on(0x410fd034, 0, 0, 0);
+    registers[CTR] = 0x80030006; /* data: 32 bytes; instructions: 256 */
+    clean_these((void *)0x1010, (void *)0x10a0);
+    for (unsigned k = 0; k < many; k++)
+        lines += events[k].key == CIVAC && events[k].value == 0x1000 + 32 * lines;
+    if (lines != 5 || events[many - 1].key != DSB)
+        is_wrong("what is cleaned by address", lines);
+    tried++;
+}
 
 int main(void) {
     mmap((void *)STACKS, STACKS_END - STACKS, PROT_READ | PROT_WRITE, MAP_PRIVATE | MAP_ANONYMOUS | MAP_FIXED, -1, 0);
     replace();
     try_resets();
+    try_map();
     try_vectors();
+    try_loop();
+    try_entries();
+    try_cleaning();
     try_stops();
     try_workarounds();
     try_features();
     try_redistributors();
-    mmap((void *)GICD, 0x10000, PROT_READ | PROT_WRITE, MAP_PRIVATE | MAP_ANONYMOUS | MAP_FIXED, -1, 0);
+    try_bells();
+    mmap((void *)GICD, 0x20000, PROT_READ | PROT_WRITE, MAP_PRIVATE | MAP_ANONYMOUS | MAP_FIXED, -1, 0);
+    try_groups();
     try_distributor(v2_gic_start);
     try_distributor(gic_start);
     printf("%u resets, ways, stops and answers; wrong %u\n", tried, wrong);

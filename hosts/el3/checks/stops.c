@@ -13,9 +13,10 @@ static const struct shape {
     {0x0a200023, false, {{2, 256, 6}, {16, 2048, 6}}},           /* Cortex-A57 of QEMU */
     {0x09200003, false, {{4, 128, 6}}},
     {0x03400103 | 1 << 3, false, {{3, 64, 5}, {8, 64, 6}, {1, 512, 7}}}, /* level 2 has instructions alone */
-    {0x02000023, true, {{4, 64, 6}, {12, 1024, 6}}},             /* none is a core's alone; as FEAT_CCIDX has it */
+    {0x02000023, true, {{4, 64, 6}, {12, 1024, 6}}},             /* LoUIS is 0, since its caches are one; as FEAT_CCIDX has it */
     {0, false, {{0, 0, 0}}},
 };
+#define OWN_ECTLR (SMP_BIT | BIT(32) * 3 | BIT(35) * 3) /* it prefetches */
 static uint8_t seen[3][64][4096];
 
 static void take_shape(const struct shape *it) {
@@ -69,34 +70,49 @@ static void look_at_order(const struct processor *it) {
             last = k;
     while (it->leaves != UNKNOWN && out < waits && events[out].value & SMP_BIT)
         out = find(ECTLR | WRITE, out + 1);
-    if (off >= waits || events[off].value & C_BIT || find(DSB, last) >= waits)
+    if (off >= waits || events[off].value != M_BIT || find(DSB, last) >= waits)
         is_wrong("its caches are on as they are cleaned, or not clean as it goes on", off);
     if (it->leaves != UNKNOWN && (out < find(DSB, last) || find(DSB, out) >= waits))
         is_wrong("it is not out of coherency once its caches are clean", out);
-    if (!(registers[SCTLR] & C_BIT) || (it->leaves != UNKNOWN && registers[ECTLR] != SMP_BIT))
+    if (registers[SCTLR] != (C_BIT | M_BIT) || registers[ECTLR] != OWN_ECTLR)
         is_wrong("it comes back another one than it went", registers[ECTLR]);
+    if (it->leaves != UNKNOWN && (events[find(OSDLR | WRITE, 0)].value != 1 || registers[OSDLR]))
+        is_wrong("a debugger may hold up its power, or none may look at it again", registers[OSDLR]);
+    unsigned prefetch = find(ECTLR | WRITE, off), first = find(CISW, off);
+    if (it->leaves == PREFETCH && (events[prefetch].value != (SMP_BIT | BIT(38)) || prefetch > first))
+        is_wrong("it prefetches as it cleans its caches", events[prefetch].value);
 }
 
 static void look_at_itself(void) {
     unsigned on = find(PWRCTLR | WRITE, 0), waits = find(WFI, 0);
-    if (on >= waits || !(events[on].value & 1) || registers[PWRCTLR] & 1 || find(SCTLR | WRITE, 0) < many)
+    if (on >= waits || events[on].value != 1 || registers[PWRCTLR] || find(SCTLR | WRITE, 0) < many)
         is_wrong("CORE_PWRDN_EN", on);
 }
 
+/* The last word is in memory before the bell, and both are before it waits. */
+static void look_at_word(bool by_register) {
+    unsigned waits = find(WFI, 0), rings = by_register ? find(SGI | WRITE, 0) : waits, at = find(DSB, 0);
+    while (at < rings && events[at].value != 1)
+        at = find(DSB, at + 1);
+    if (at >= rings || events[waits - 1].key != DSB || events[waits - 1].value != (by_register ? 1 : 3))
+        is_wrong("no DSB is between its last word and its bell, or behind both", waits - at);
+}
+
 static void try_stop(const struct processor *it, const struct shape *shape, enum caches caches, bool by_register) {
-    static uint64_t bell;
     struct last_word *last = (void *)stack;
-    unsigned levels = shape->clidr >> (caches == OWN_CACHES ? 21 : 24) & 7;
+    unsigned all = shape->clidr >> 24 & 7, own = shape->clidr >> 21 & 7, levels = caches == OWN_CACHES && own ? own : all;
     power_on(it->midr, 0, it->csv2, it->ssbs);
     take_shape(shape);
     registers[SCTLR] = C_BIT | M_BIT;
-    registers[ECTLR] = SMP_BIT;
-    registers[SGI] = bell = word = 0;
+    registers[ECTLR] = OWN_ECTLR;
+    registers[SGI] = rung = word = 0;
     said = 77;
-    *last = (struct last_word){&word, said, {by_register ? 0 : (uint64_t)&bell, 0x5000}};
+    *last = (struct last_word){&word, said, {by_register ? 0 : (uint64_t)&rung, 0x5000}};
     call_stand(last, caches);
-    if (word != said || (by_register ? registers[SGI] : bell) != 0x5000 || find(WFI, 0) >= many)
+    if (word != said || (by_register ? registers[SGI] : rung) != 0x5000 || find(WFI, 0) >= many)
         is_wrong("its last word and its bell", word);
+    look_at_word(by_register);
+    look_at_barriers();
     if (it->leaves == ITSELF) {
         look_at_itself();
     } else {

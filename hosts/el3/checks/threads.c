@@ -107,10 +107,10 @@ static void look_at_entry(void) {
         is_wrong("the state at an entry: it is what was there before", me->number);
 }
 
-/* Core 0 has made its calls: the life ends, by the reset button as long as it is to be pressed. */
+/* Core 0 has made its calls: the life ends, by the reset button as long as it is to be pressed, behind one that was ordered. */
 static void end_life(void) {
     look_at_doors();
-    if (GET(life.presses) < life.wished) {
+    if (life.lives > 1 && GET(life.presses) < life.wished) {
         press();
         look();
     }

@@ -58,6 +58,7 @@ void *watch(void *);
 void look_at_doors(void); /* as a life ends: whether a core sleeps that was started, and that nobody rings any more */
 void executes(void); /* by a core that does not stand in its stop */
 void cleans(enum caches), nobody_cleans(void); /* by a core, its caches; at a reset, none is left to clean */
+void lose_caches(void);    /* at a reset that nobody has ordered */
 void look_at_memory(void); /* as a pin resets the machine: what outlives that, and stands in caches alone */
 void has_rung(void), owes_no_bell(void); /* the control processor has rung a core; it is about to sleep */
 #endif

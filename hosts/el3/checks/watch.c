@@ -105,9 +105,27 @@ static bool says_that_it_stands(unsigned core) {
     return opened && LOAD(shared.doors[core].stopped) == opened;
 }
 
+/* Of the last orders the domains, and how many of these are switched. */
+static struct psci_control_orders due;
+static unsigned switched;
+
+void board_switches(const struct psci_ctl_domain *domain) {
+    if (switched >= due.many || memcmp(&due.domains[switched++], domain, sizeof *domain) != 0)
+        is_wrong("a domain is switched that nobody has ordered", domain->index);
+}
+
+static void look_at_switches(void) {
+    if (switched != due.many)
+        is_wrong("what was ordered is not switched by now", due.many - switched);
+    due.many = switched = 0;
+}
+
 /* What cores did last that are switched, and stand in their stop by what they say, is read here: ThreadSanitizer tells
  * where they still do something. */
 static void look_at_cores(const struct psci_control_orders *orders) {
+    look_at_switches();
+    if (orders->what == PSCI_CONTROL_ORDERS)
+        due = *orders;
     for (unsigned at = 0; at < orders->many; at++)
         for (unsigned core = 0; core < CORES; core++)
             if (paths[core][orders->domains[at].level] == orders->domains[at].index && says_that_it_stands(core))
@@ -132,6 +150,9 @@ void __wrap_psci_control_waited(struct psci_control_place *place, uint16_t core,
 void __real_psci_control_wake(struct psci_control_place *, uint16_t, struct psci_control_orders *);
 void __wrap_psci_control_wake(struct psci_control_place *place, uint16_t core, struct psci_control_orders *orders) {
     __real_psci_control_wake(place, core, orders);
+    look_at_switches();
+    if (orders->what == PSCI_CONTROL_ORDERS)
+        due = *orders;
     if (orders->what == PSCI_CONTROL_ORDERS && !stands[core].wakes)
         is_wrong("a core is woken that is off, or parks", core);
     look();
@@ -146,6 +167,8 @@ static bool owes;
 bool __real_put_frame(struct ring *, const uint8_t *);
 bool __wrap_put_frame(struct ring *ring, const uint8_t *frame) {
     bool was_put = __real_put_frame(ring, frame);
+    if (ring == &shared.acks)
+        look_at_switches();
     if (ring != &shared.acks || !was_put)
         return was_put;
     for (unsigned core = 0; core < CORES; core++)
@@ -171,6 +194,7 @@ void owes_no_bell(void) {
 uint32_t __real_psci_control_open_board(struct psci_control_place *, const struct psci_board *);
 uint32_t __wrap_psci_control_open_board(struct psci_control_place *place, const struct psci_board *of) {
     owes = false;
+    due.many = switched = 0;
     return __real_psci_control_open_board(place, of);
 }
 
@@ -198,6 +222,16 @@ UNSEEN void look_at_memory(void) {
             is_wrong("what outlives a reset is in caches alone", at - kept_start);
             return;
         }
+}
+
+/* A reset that nobody has ordered: what caches alone have is lost, but for lines that they gave up before. That of the word
+ * by which such a reset is known is none of these. */
+UNSEEN void lose_caches(void) {
+    for (volatile char *at = kept_start; at < kept_end; at++) {
+        unsigned line = (at - kept_start) / 64, own = ((char *)&kept.boot - kept_start) / 64;
+        if (!is_tally(at) && (line == own || (line * 2654435761u >> 16 & 1)))
+            *at = memory[at - kept_start];
+    }
 }
 
 /* What is left undone ---------------------------------------------------------------------------- */

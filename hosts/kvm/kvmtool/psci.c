@@ -1,6 +1,7 @@
 /* kvmtool's vCPUs as cores of the library: its arm/psci.c. What is decided stands in cores.c of the folder above. */
 #include "vmm.h"
 
+#include "arm-common/gic.h"
 #include "kvm/kvm.h"
 #include "kvm/kvm-cpu.h"
 #include "kvm/util-init.h"
@@ -36,7 +37,9 @@ void psci__open(struct kvm *kvm) {
 
 unsigned long psci__vcpu_number(unsigned long cpu) { return vcpu_number(&cores[cpu]); }
 
-void psci__adopt(struct kvm_cpu *cpu) { adopt(core_of(cpu), cpu->vcpu_fd, cpu->kvm_run); }
+void psci__adopt(struct kvm_cpu *cpu, const struct kvm_vcpu_init *kind) {
+    adopt(core_of(cpu), cpu->vcpu_fd, cpu->kvm_run, kind);
+}
 
 static int psci__record(struct kvm *kvm) {
     record_into(kvm->cfg.arch.psci_record ?: "/dev/null", kvm->cfg.arch.psci_board);
@@ -57,18 +60,34 @@ void call_back(struct core *core) {
     pthread_cond_signal(&core->bell);
 }
 
-/* All vCPUs have left the guest. Then memory is as at the beginning, and the boot core finds its start. */
-static void next_life(struct core *core) {
-    bool boots = core == cores;
+/* As at a cold boot, but for kvmtool's devices, with all vCPUs out of the guest. The kernel's header is loaded first. */
+static void begin_life(void) {
+    for (struct core *core = cores; core < cores + many_cores; core++) {
+        reset_core(core);
+        core->run->immediate_exit = 0;
+    }
+    reset_interrupts();
+    kvm__load_kernel(vm, vm->cfg.kernel_filename, vm->cfg.initrd_filename, vm->cfg.real_cmdline);
+    empty_memory(vm->ram_start, vm->ram_size, ARM_KERN_OFFSET(vm));
+    kvm__load_kernel(vm, vm->cfg.kernel_filename, vm->cfg.initrd_filename, vm->cfg.real_cmdline);
+    setup_fdt(vm);
+    life = GOES_ON;
+}
+
+static void next_life(const struct core *core) {
     pthread_barrier_wait(&all);
-    core->run->immediate_exit = 0;
-    core->executes = false;
-    core->is_open = boots;
+    if (core == cores)
+        begin_life();
     pthread_barrier_wait(&all);
-    if (boots) {
-        kvm__load_kernel(vm, vm->cfg.kernel_filename, vm->cfg.initrd_filename, vm->cfg.real_cmdline);
-        setup_fdt(vm);
-        life = GOES_ON;
+}
+
+/* Before any vCPU has been in the guest, and with none in a call of KVM's. */
+static void first_life(struct core *core) {
+    core->thread = pthread_self();
+    pthread_barrier_wait(&all);
+    if (core == cores) {
+        interrupts = gic_fd;
+        reset_interrupts();
     }
     pthread_barrier_wait(&all);
 }
@@ -87,10 +106,8 @@ static void wait_a_while(struct core *core) {
 bool kvm_cpu__arch_runs(struct kvm_cpu *cpu) {
     struct core *core = core_of(cpu);
     struct psci_answer answer;
-    if (!core->thread) {
-        core->thread = pthread_self();
-        pthread_barrier_wait(&all);
-    }
+    if (!core->thread)
+        first_life(core);
     pthread_mutex_lock(&lock);
     enum life now = life;
     bool enters = core->is_open && now == GOES_ON;
@@ -107,14 +124,8 @@ bool kvm_cpu__arch_runs(struct kvm_cpu *cpu) {
     return now == GOES_ON && !waits;
 }
 
-/* The exits that are the library's; false for any other. */
 bool kvm_cpu__arch_exit(struct kvm_cpu *cpu) {
-    struct kvm_run *run = cpu->kvm_run;
-    if (run->exit_reason == KVM_EXIT_HYPERCALL)
-        call(core_of(cpu));
-    else if (run->exit_reason == KVM_EXIT_SYSTEM_EVENT && run->system_event.type == KVM_SYSTEM_EVENT_WAKEUP)
-        wake(core_of(cpu));
-    else
+    if (!take_exit(core_of(cpu)))
         return false;
     if (life == IS_OFF)
         kvm__reboot(vm);

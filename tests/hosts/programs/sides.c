@@ -45,9 +45,9 @@ static struct core {
 } cores[CORES];
 static struct psci_frame sent[MOST], acks[MOST];
 static unsigned many_sent, many_acks, tally[16];
-enum { CALLS, STOPS, ENTRIES, PARKS, RESUMES, WAKES, RESETS, WAITED, SERVED, TAKEN, ENDINGS, AGAIN, REFUSALS };
+enum { CALLS, STOPS, ENTRIES, PARKS, RESUMES, WAKES, RESETS, WAITED, SERVED, TAKEN, ENDINGS, AGAIN, EARLY, REFUSALS };
 static const char *const names[] = {"calls", "stops", "entries", "parks", "resumes", "wakes", "resets", "waited", "served",
-                                    "taken", "endings", "again", "refusals"};
+                                    "taken", "endings", "again", "early", "refusals"};
 
 static uint64_t seed;
 static unsigned draw(unsigned below) {
@@ -271,13 +271,23 @@ static void look(unsigned core) {
     }
 }
 
-/* A core that stands says its word, and the controller hears it. */
+/* A core that stands says its word, and the controller hears it. A wake-up of before is lost; said again it starts the
+ * core, up to the limit of starts. */
 static void stand(unsigned core) {
     struct core *it = &cores[core];
+    bool early = it->side.stop == PSCI_PORT_SUSPENDED && draw(4) == 0;
     hold(psci_port_stands(&it->side) == 0 && it->side.post == PSCI_PORT_WAITING, "stands", it->side.post);
+    if (early)
+        wake(core);
     it->word = it->side.used;
     hold(psci_control_stands(&control, core, it->word) == 0, "hears", core);
     serve_waiting(core);
+    if (!early || it->side.post != PSCI_PORT_WAITING)
+        return;
+    hold(psci_control_starts(&control, core) == it->word, "a wake-up that came too early", core);
+    wake(core);
+    hold(psci_control_starts(&control, core) == it->word + (it->word < board.starts), "a wake-up that is said again", core);
+    tally[EARLY]++;
 }
 
 /* The same with the lock in hand: its own wake-up comes before its WFI, or behind it. */

@@ -28,19 +28,36 @@ void set_x0(struct core *core, uint64_t value) { (void)core, (void)value; }
 
 void set_state(struct core *core, uint32_t state) { (void)core, (void)state; }
 
+void reset_vcpu(struct core *core) { (void)core; }
+
+uint64_t byte_order(struct core *core) {
+    (void)core;
+    return 0;
+}
+
+void step(struct core *core, bool is_new) { core->is_new = is_new; }
+
 void call_back(struct core *core) { core->executes = false; }
 
 static uint64_t affinity(void) { return cores[draw(many_cores)].affinity; }
 
-/* The boot core does not go off, so somebody is left. */
+/* A start that nobody has taken up yet. */
+static bool has_open_door(void) {
+    bool has = false;
+    for (const struct core *core = cores; core < cores + many_cores; core++)
+        has |= core->is_open;
+    return has;
+}
+
+/* The boot core does not go off, so somebody is left; and a life ends once all starts are taken up. */
 static void draw_call(const struct core *core) {
     static const uint32_t functions[] = {0x84000000, 0xc4000003, 0xc4000003, 0xc4000003, 0x84000002, 0x84000002,
                                          0xc4000001, 0xc4000001, 0xc4000001, 0xc4000001, 0xc4000004, 0xc400000d,
                                          0xc400000e, 0x8400000f, 0x84000009, 0xc4000012};
     static const uint32_t states[] = {0x01000001, 0x02010333, 0x02010033, 0x01000022, 0x00000001, 0x05};
     do
-        x[0] = functions[draw(draw(20) ? 14 : sizeof functions / sizeof *functions)];
-    while (core == cores && x[0] == 0x84000002);
+        x[0] = functions[draw(draw(8) ? 14 : sizeof functions / sizeof *functions)];
+    while ((core == cores && x[0] == 0x84000002) || ((x[0] == 0x84000009 || x[0] == 0xc4000012) && has_open_door()));
     x[1] = x[0] == 0xc4000001 ? states[draw(6)] : x[0] == 0x8400000f ? draw(3) : affinity();
     x[2] = x[0] == 0xc4000004 || x[0] == 0xc400000d ? draw(4) : 0x40000000 + 4 * draw(0x1000);
     x[3] = draw(100);
@@ -48,9 +65,13 @@ static void draw_call(const struct core *core) {
 
 static void act(struct core *core) {
     struct psci_answer answer;
-    if (core->is_open)
+    if (core->is_open) {
         enter(core, &answer);
-    else if (core->executes && (draw_call(core), true))
+        if (answer.what == PSCI_ENTER) {
+            memcpy(core->first, (uint64_t[]){answer.address, answer.context, 0x3c5, 0}, sizeof core->first);
+            begun(core);
+        }
+    } else if (core->executes && (draw_call(core), true))
         call(core);
     else if (core->how.wakes)
         wake(core);
@@ -58,8 +79,7 @@ static void act(struct core *core) {
 
 static void next_life(void) {
     for (struct core *core = cores; core < cores + many_cores; core++)
-        core->executes = core->how.wakes = core->is_open = false;
-    cores->is_open = true;
+        reset_core(core);
     life = GOES_ON;
 }
 

@@ -3,6 +3,7 @@
 #include "fuzz.h"
 #include "port.h"
 
+#include <stddef.h>
 #include <stdlib.h>
 
 static struct port kept;
@@ -33,9 +34,10 @@ static uint32_t own_status(void *self, uint32_t core) {
     return psci_status(&port.firmware, 0, core);
 }
 
+/* Messages stay where they are once they are sent; the first one is sent in more than one list while a cause is looked for. */
 static void own_save(void *self, bool back) {
     (void)self;
-    *(back ? &port : &kept) = *(back ? &kept : &port);
+    memcpy(back ? &port : &kept, back ? &kept : &port, offsetof(struct port, messages) + sizeof *port.messages);
 }
 
 static bool own_deliver(void *self, uint32_t message) {

@@ -3,7 +3,7 @@
 
 #include <string.h>
 
-enum { MOST_FRAMES = 512 };
+enum { MOST_FRAMES = PSCI_BESIDE_EVENTS };
 struct port {
     struct psci_place firmware;
     struct psci_ctl_place controller;

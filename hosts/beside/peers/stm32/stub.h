@@ -1,23 +1,11 @@
 /* What psci.c of mach-stm32mp takes from U-Boot's headers that are not here. */
-#include <errno.h>
-#include <stdbool.h>
-#include <stddef.h>
-#include <stdint.h>
-
-typedef uint8_t u8;
-typedef uint32_t u32;
-typedef int32_t s32;
-typedef uint64_t u64;
-#define BIT(n) (1u << (n))
-#define GENMASK(h, l) ((~0u << (l)) & (~0u >> (31 - (h))))
+#include "../stm32/armv7.h"
 #define ARRAY_SIZE(a) (sizeof(a) / sizeof *(a))
-#define CONFIG_ARMV7_PSCI_NR_CPUS 2
 #define CBAR_MASK 0xffff8000
 #define __secure_stack_end 0x2fff0000
 enum { STM32_RCC_BASE = 0x50000000, STM32_PWR_BASE = 0x50001000, STM32_SYSCFG_BASE = 0x50020000,
        STM32_DDRCTRL_BASE = 0x5a003000, STM32_DDRPHYC_BASE = 0x5a004000, STM32_IWDG1_BASE = 0x5c003000,
        STM32_IWDG2_BASE = 0x5a002000, GIC_DIST_OFFSET = 0x1000, GICD_ISENABLERn = 0x100, GICD_SGIR = 0xf00,
        GICR_IGROUPMODRn = 0xd00, TAMP_BACKUP_MAGIC_NUMBER = 0x5c00a150, TAMP_BACKUP_BRANCH_ADDRESS = 0x5c00a154 };
-u32 readl(uintptr_t at), psci_get_cpu_id(void), psci_get_target_pc(int cpu), psci_get_context_id(int cpu);
-void writel(u32 value, uintptr_t at), wfi(void), hang(void), sleeps(void), psci_cpu_entry(void), psci_save(int cpu, u32 pc, u32 context_id);
+void hang(void), sleeps(void);
 #define sleep_here(...) sleeps()

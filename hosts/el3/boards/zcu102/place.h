@@ -21,18 +21,18 @@
 #ifdef MAP
         .balign 4096
 map:
-        entries 2, 0x0, 0x40000000, 0x40000000000721
+        entries 2, 0x0, 0x40000000, 0x40000000000761
         .zero   8
         .quad   map_1 + 3
         .balign 4096
 map_1:
         .zero   3584
-        entries 63, 0xf8000000, 0x200000, 0x40000000000405
+        entries 63, 0xf8000000, 0x200000, 0x40000000000445
         .quad   map_2 + 3
         .balign 4096
 map_2:
-        entries 448, 0xffe00000, 0x1000, 0x40000000000407
-        entries 32, 0xfffc0000, 0x1000, 0x783
-        entries 20, 0xfffe0000, 0x1000, 0x40000000000703
-        guarded 4, 0xffff5000, 2, 0x40000000000703
+        entries 448, 0xffe00000, 0x1000, 0x40000000000447
+        entries 32, 0xfffc0000, 0x1000, 0x7c3
+        entries 20, 0xfffe0000, 0x1000, 0x40000000000743
+        guarded 4, 0xffff5000, 2, 0x40000000000743
 #endif
