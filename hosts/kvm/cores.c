@@ -23,6 +23,9 @@ static unsigned number_of(const struct core *core) { return (unsigned)(core - co
 
 bool was_refused(void) { return refused != 0; }
 
+/* A life from which the guest leaves goes on: what happens until all cores are out of the guest no other monitor sees. */
+static bool is_over(void) { return life == RESTARTS || life == IS_OFF; }
+
 /* What no caller of the library may be told, if this program is right. */
 static void look(const char *what, uint32_t answer) {
     if (answer == PSCI_GUEST_TURNED)
@@ -65,7 +68,7 @@ static void end_life(uint32_t next) {
 void wake(struct core *core) {
     struct psci_guest_turn turn;
     pthread_mutex_lock(&lock);
-    if (life == GOES_ON) {
+    if (!is_over()) {
         psci_guest_wake(&guest, number_of(core), &turn);
         look("a wake-up", turn.what);
         record_wake(core, &turn);
@@ -86,7 +89,7 @@ void enter(struct core *core, struct psci_answer *answer) {
 /* The guest's first exit tells that the core is in it. In a life that is over nobody asks. */
 void begun(struct core *core) {
     pthread_mutex_lock(&lock);
-    if (life == GOES_ON)
+    if (!is_over())
         record_begins(core);
     pthread_mutex_unlock(&lock);
     step(core, false);
@@ -115,7 +118,7 @@ static bool ask_firmware(struct core *core, const uint64_t *x, struct psci_guest
         if (turn->life != core->start.life)
             end_life(turn->life);
         open_door(turn, core);
-    } else if (life == GOES_ON) {
+    } else if (!is_over()) {
         look("a call", turn->what);
     }
     pthread_mutex_unlock(&lock);

@@ -1,6 +1,7 @@
 /* hosts/kvm/cores.c without KVM: turns SEED MANY RECORD [BOARD] draws so many acts of vCPUs, one at a time, and writes
  * their record, which ./psci compare asks again. A core enters, calls, or has a wake-up event; what it has in x0 to x3
- * is drawn. A life that ends begins anew. Now and then the guest's power is saved, opened anew and loaded. */
+ * is drawn. A life that ends begins anew. Now and then the guest's power is saved, opened anew and loaded, and a core acts
+ * while the guest leaves. */
 #include "vmm.h"
 
 #include <stdio.h>
@@ -107,6 +108,7 @@ int main(int many, char **words) {
         core->mpidr = core->affinity;
     record_into(words[3], board);
     for (unsigned left = (unsigned)strtoul(words[2], 0, 10); left && life != IS_OFF; left--) {
+        life = left % 8 == 0 ? LEAVES : GOES_ON;
         act(&cores[draw(many_cores)]);
         if (left % 16 == 0)
             move(board);
