@@ -1,6 +1,6 @@
 -- Worked examples: which core runs, which one was started and enters, and what is not settled.
 use Rattle.std.proofs.Common.{◌<◌, ◌∷◌, ◌≡◌, [], arith, List, None, refl, Some, sym, true, ℕ}
-use Rattle.std.proofs.lemmas.Option.{none-some}
+use Rattle.std.proofs.lemmas.Option.{none-some, same_Some}
 use Rattle.psci_messages.specs.declared.start.Cause.TheVariants as causes
 use Rattle.psci_messages.specs.declared.kind.Kind.TheVariants.{Down}
 use Rattle.psci_messages.specs.Message.{MessageValue}
@@ -16,8 +16,8 @@ use Rattle.psci_world_spec.specs.declared.said.Said.{Said}
 use Rattle.psci_world_spec.specs.declared.said.Said.TheVariants.{Absent, Fw}
 use Rattle.psci_world_spec.specs.Legal.{place, run_from}
 use Rattle.psci_world_spec.proofs.Scripts as scripts
-use Rattle.psci_world_spec.proofs.Scripts.{acked, board, call, off, on_3, system_off, tall}
-use Rattle.psci_world_spec.proofs.Scripts.{value, version}
+use Rattle.psci_world_spec.proofs.Scripts.{acked, board, call, off, on_3, one_core, system_off}
+use Rattle.psci_world_spec.proofs.Scripts.{tall, value, version}
 use Rattle.psci_headline.proofs.Untold.{computing}
 use Rattle.psci_headline.proofs.Words.{nat_tests}
 use Rattle.psci_guest.specs.declared.arrival.Arrival.{Arrival}
@@ -58,6 +58,14 @@ says_less is = let e = is.1 in absurd (cc)
 boot_runs : RunsIn board (after (Enter 0 ∷ [])) 1 0
 unfolding scripts.computing
 boot_runs = record { present = refl; place = refl }
+
+another_life : RunsIn board (after (Enter 0 ∷ [])) 2 0 → ⊥
+unfolding scripts.computing
+another_life is = let no : 1 ≡ 2 = same_Some 1 2 is.present in absurd (omega (arith, no))
+
+third_stands : RunsIn board (after (Enter 0 ∷ [])) 1 3 → ⊥
+unfolding scripts.computing
+third_stands is = let no = is.place in absurd (cc)
 
 -- Arrivals ----------------------------------------------------------------------------------------
 
@@ -107,8 +115,14 @@ start_waits : IsSettled board (after (Enter 0 ∷ on_3 ∷ [])) → ⊥
 unfolding scripts.computing
 start_waits is = none-some _ (sym ((is.rest 1 refl).own 3 (omega arith)))
 
+-- before the first turn the boot core waits at its start
+still_waits : IsSettled one_core [] → ⊥
+unfolding scripts.computing
+still_waits is = (is.rest 1 refl).entered 0 (omega arith) refl
+
 -- a record says that nothing came of a call that was answered
-no_answer : IsSettled board (record { event = version 0; said = Absent } ∷ after (Enter 0 ∷ [])) → ⊥
+no_answer : IsSettled one_core (record { event = version 0; said = Absent }
+    ∷ run_from one_core [] (Enter 0 ∷ [])) → ⊥
 unfolding scripts.computing
 no_answer is = let said = is.legal.0 in absurd (cc)
 

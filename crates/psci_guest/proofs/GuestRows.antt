@@ -1,8 +1,5 @@
 -- Worked examples: what is told of a turn.
-use Rattle.std.proofs.Common.{◌∙◌, ◌∷◌, ◌≡◌, [], ap, arith, List, None, Option, pos, refl, Some}
-use Rattle.std.proofs.Common.{sym, ℕ}
-use Rattle.std.proofs.lemmas.Option.{none-some}
-use Rattle.psci_board.specs.Board.{height}
+use Rattle.std.proofs.Common.{◌≡◌, [], arith, List, None, pos, refl, Some, ℕ}
 use Rattle.psci_messages.specs.declared.start.Cause.{Cause}
 use Rattle.psci_messages.specs.declared.start.Cause.TheVariants as causes
 use Rattle.psci_fw_spec.specs.declared.outcome.Act.{Act}
@@ -14,15 +11,13 @@ use Rattle.psci_world_spec.specs.declared.place.Place.TheVariants.{Started}
 use Rattle.psci_world_spec.specs.declared.said.Record.{Record}
 use Rattle.psci_world_spec.specs.Legal.{place}
 use Rattle.psci_world_spec.proofs.Scripts as scripts
-use Rattle.psci_world_spec.proofs.Scripts.{board, tall}
+use Rattle.psci_world_spec.proofs.Scripts.{board}
 use Rattle.psci_guest.specs.declared.arrival.Arrival.{Arrival}
-use Rattle.psci_guest.specs.declared.turned.Turned.{Turned}
-use Rattle.psci_guest.specs.Guest.{IsAfter, IsKicked, IsTold, IsTurned}
-use Rattle.psci_guest.specs.Pair.{Kept, PairValue}
-use Rattle.psci_guest.specs.Turns.{arrived, Calls, event_of, exchange, Turn, turns, Wakes}
+use Rattle.psci_guest.specs.Guest.{IsTold}
+use Rattle.psci_guest.specs.Turns.{arrived, Calls, event_of, exchange, Turn, turns}
 use Rattle.psci_guest.proofs.ArrivalRows.{by_core}
 
-unfoldable computing : Unit {0}
+unfoldable pub computing : Unit {0}
 unfolding scripts.computing turns arrived exchange
 computing = tt
 
@@ -39,7 +34,7 @@ abbrev began : List Record
 began = turns board []
 
 -- a core enters by its first start of a life
-abbrev enters : ℕ → ℕ → Cause → Outcome → Arrival
+abbrev pub enters : ℕ → ℕ → Cause → Outcome → Arrival
 enters c life cause outcome = record {
   core = record { number = c };
   start = record { life = life; number = 1; cause = cause };
@@ -47,7 +42,7 @@ enters c life cause outcome = record {
 }
 
 -- this, and nothing is sent
-abbrev quiet : Act → Outcome
+abbrev pub quiet : Act → Outcome
 quiet act = record { act = act; message = None }
 
 -- this, and a message of core c in life 1, without parts
@@ -101,37 +96,3 @@ no_life : IsTold board began on_3
     (record { outcome = success; arrival = Some third; life = None }) → ⊥
 unfolding computing
 no_life is = let life = is.life in absurd (cc)
-
--- What a turn leaves -----------------------------------------------------------------------------
-
--- how often core 3 was started
-abbrev starts_of_3 : Kept → ℕ
-starts_of_3 k = k.controller.starts 3
-
--- what is kept is that of all turns
-turn_is_left_out : (p : PairValue) → IsAfter board [] p → IsAfter board (on_3 ∷ []) p → ⊥
-unfolding computing
-turn_is_left_out p before after =
-    let no : 0 ≡ 1 = ap starts_of_3 (sym before.kept ∙ after.kept) in absurd (omega (arith, no))
-
-another_board : (p : PairValue) → IsAfter board [] p → IsAfter tall [] p → ⊥
-another_board p here there =
-    let no : 2 ≡ 3 = ap height (sym here.board ∙ there.board) in absurd (omega (arith, no))
-
--- a turn that was made is told, and is left
-untold : (p : PairValue) → IsTurned board [] on_3 p None → ⊥
-untold p is = none-some is.told is.is
-
-nothing_left : (p : PairValue) (r : Option Turned) → IsAfter board [] p
-    → IsTurned board [] on_3 p r → ⊥
-nothing_left p r before is = turn_is_left_out p before is.after
-
-nothing_woken : (p : PairValue) (r : Option Arrival) → IsAfter board [] p
-    → IsKicked board [] (Wakes 3) p r → ⊥
-unfolding computing
-nothing_woken p r before is =
-    let no : 0 ≡ 1 = ap starts_of_3 (sym before.kept ∙ is.after.kept) in absurd (omega (arith, no))
-
-woken_untold : (p : PairValue) → IsKicked board [] (Wakes 3) p None → ⊥
-unfolding computing
-woken_untold p is = is.arrival 3 (omega arith) refl

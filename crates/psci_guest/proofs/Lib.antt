@@ -11,4 +11,5 @@ pub mod Keeping
 -- Worked examples.
 mod ArrivalRows
 mod GuestRows
+mod KeptRows
 pub mod SavedRows

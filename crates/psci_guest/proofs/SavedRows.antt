@@ -1,6 +1,6 @@
 -- Worked examples of words that are refused: a guest of a board of one core, which runs in its
 -- first start of life 2.
-use Rattle.std.proofs.Common.{false, [], ◌∷◌, Some, None, refl}
+use Rattle.std.proofs.Common.{false, [], ◌∷◌, Some, None, refl, ℕ}
 use Rattle.psci_board.specs.Board.{BoardValue}
 use Rattle.psci_board.specs.psci_abi.declared.registers.Format.TheVariants.{Original}
 use Rattle.psci_messages.specs.declared.start.Cause.TheVariants.{Boot}
@@ -24,11 +24,12 @@ board = record {
   format = Original;
 }
 
-abbrev pub pair : PairValue
-pair = record {
+-- of whichever board, and in this life
+abbrev pub pair_of : BoardValue → ℕ → PairValue
+pair_of b life = record {
   firmware = record {
-    board = board;
-    life = 2;
+    board = b;
+    life = life;
     halting = false;
     mode = Platform;
     tree = record {
@@ -42,13 +43,16 @@ pair = record {
     slots = record { cores = None ∷ []; system = None };
   };
   controller = record {
-    board = board;
-    life = Some 2;
+    board = b;
+    life = Some life;
     cores = record { starts = 1; cause = Boot } ∷ [];
     domains =
         (record { depth = 0; starts = 1 } ∷ []) ∷ (record { depth = 0; starts = 1 } ∷ []) ∷ [];
   };
 }
+
+abbrev pub pair : PairValue
+pair = pair_of board 2
 
 -- Refusals ---------------------------------------------------------------------------------------
 
