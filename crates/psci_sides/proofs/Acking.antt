@@ -19,7 +19,7 @@ use Rattle.psci_fw_spec.specs.declared.outcome.Act.TheVariants as acts
 use Rattle.psci_fw_spec.specs.declared.outcome.Outcome.{Outcome as Ending}
 use Rattle.psci_fw_spec.specs.declared.reply.FwReply.TheVariants as replies
 use Rattle.psci_port.specs.Port.{state}
-use Rattle.psci_port.proofs.Powering.{takes_left}
+use Rattle.psci_port.proofs.Power.{takes_left}
 use Rattle.psci_sides.specs.Frames.{is_end_of}
 use Rattle.psci_sides.proofs.Words.{◌++◌, ◌+◌, ◌<◌, ◌∙◌, ◌≤◌, ◌⊎◌, ◌≡◌, ack_by, AckValue, Act}
 use Rattle.psci_sides.proofs.Words.{answers, ap, arith, Begins, BoardValue, Bool, change, cond}

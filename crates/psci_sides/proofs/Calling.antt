@@ -10,12 +10,11 @@ use Rattle.psci_port.specs.Port.{begins, Calls, ended, finished, state, step, Ta
 use Rattle.psci_port.specs.Stages as stages
 use Rattle.psci_port.specs.Rules as rules
 use Rattle.psci_port.proofs.Running.{step_kept}
-use Rattle.psci_port.proofs.Mirrors.{IsDue}
+use Rattle.psci_port.proofs.Truth.{IsDue}
 use Rattle.psci_fw.specs.Reactions.{seen as values}
 use Rattle.psci_control.specs.SideOf as control
 use Rattle.psci_enter.proofs.Ending.{calls_so, lost_ack}
-use Rattle.psci_enter.proofs.Keeping.{called_reply, entered_reply, life_of, one_entry}
-use Rattle.psci_enter.proofs.Values.{taken_values}
+use Rattle.psci_enter.proofs.Keeping.{called_reply, entered_reply, life_of, one_entry, taken_values}
 use Rattle.psci_sides.specs.Machine.{lent_to, returned}
 use Rattle.psci_sides.specs.Steps.{after}
 use Rattle.psci_sides.proofs.Words.{◌<◌, ◌==◌, ◌∙◌, ◌∷◌, ◌≡◌, [], AckValue, Act, answered, ap}

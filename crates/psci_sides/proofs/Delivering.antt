@@ -9,8 +9,8 @@ use Rattle.psci_port.specs.Port.{Resets, Rises, state, step, Wakes, woken}
 use Rattle.psci_port.specs.Waiting.{stands, touches}
 use Rattle.psci_port.specs.Stages as stages
 use Rattle.psci_port.specs.Rules as rules
-use Rattle.psci_port.proofs.Locks.{first_begun}
-use Rattle.psci_port.proofs.Started.{delivered_starts, delivered_touches, woken_starts}
+use Rattle.psci_port.proofs.Running.{first_begun}
+use Rattle.psci_port.proofs.Rows.{delivered_starts, delivered_touches, woken_starts}
 use Rattle.psci_port.proofs.Records.{delivered_held, woken_held}
 use Rattle.psci_control.specs.ControlSide.{IsAsked, reply_in}
 use Rattle.psci_control.specs.SideOf as control
@@ -18,10 +18,9 @@ use Rattle.psci_control.proofs.Commanded.{delivers_side, resets_side, rises_side
 use Rattle.psci_control.proofs.Commanded.{woken_side}
 use Rattle.psci_enter.specs.SideOf.{is_started}
 use Rattle.psci_enter.specs.Side.{heard as hears}
-use Rattle.psci_enter.proofs.Keeping.{delivers_firmware}
+use Rattle.psci_enter.proofs.Keeping.{delivers_firmware, rises}
 use Rattle.psci_enter.proofs.Others as others
 use Rattle.psci_enter.proofs.Others.{effect_side, wake_goes}
-use Rattle.psci_enter.proofs.Standing.{rises}
 use Rattle.psci_sides.specs.Machine.{carried}
 use Rattle.psci_sides.specs.Steps.{after, ArmedLacks, Asks, came_back, reset_of, risen}
 use Rattle.psci_sides.specs.Seen.{rise_acts}

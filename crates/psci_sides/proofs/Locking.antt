@@ -6,7 +6,7 @@ use Rattle.psci_port.specs.Stages.{roused_at}
 use Rattle.psci_enter.specs.declared.order.Look.{Look}
 use Rattle.psci_enter.specs.declared.order.Look.TheVariants as look
 use Rattle.psci_enter.specs.Side.{taking_up as takes}
-use Rattle.psci_enter.proofs.Standing.{arms, rouses, sleeps, stands, turns}
+use Rattle.psci_enter.proofs.Keeping.{arms, rouses, sleeps, stands, turns}
 use Rattle.psci_sides.specs.Steps.{after, elsewhere, Lacks, roused}
 use Rattle.psci_sides.specs.Seen.{look_acts, sleep_act}
 use Rattle.psci_sides.proofs.Words.{◌++◌, ◌<◌, ◌==◌, ◌∙◌, ◌∷◌, ◌≡◌, [], Act, ap, apart_side, arith}

@@ -7,7 +7,7 @@ use Rattle.psci_port.specs.Port.{state}
 use Rattle.psci_port.specs.Stages as stages
 use Rattle.psci_port.specs.Stages.{executes as runs, is_inside}
 use Rattle.psci_port.specs.Resting as port
-use Rattle.psci_port.proofs.Locks.{looks_apart}
+use Rattle.psci_port.proofs.Running.{looks_apart}
 use Rattle.psci_port.proofs.Rows.{IsRow}
 use Rattle.psci_control.specs.declared.door.DoorOrder.TheVariants as orders
 use Rattle.psci_enter.specs.declared.post.Post.TheVariants.{Leaving, Woken}

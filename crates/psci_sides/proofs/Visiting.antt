@@ -2,7 +2,7 @@
 use Rattle.psci_port.specs.Port.{state, step}
 use Rattle.psci_port.specs.Resting.{total}
 use Rattle.psci_port.specs.Stages as stages
-use Rattle.psci_port.proofs.Powering.{locks_other, locks_own}
+use Rattle.psci_port.proofs.Power.{locks_other, locks_own}
 use Rattle.psci_port.proofs.Truth.{total_less}
 use Rattle.psci_sides.proofs.Words.{◌*◌, ◌++◌, ◌+◌, ◌<◌, ◌==◌, ◌∙◌, ◌∷◌, ◌≤◌, ◌≡◌, Act, ap, arith}
 use Rattle.psci_sides.proofs.Words.{BoardValue, Bool, closed, cond, core_left, cores, eq-eqb}

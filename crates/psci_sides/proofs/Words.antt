@@ -40,12 +40,10 @@ pub use Rattle.psci_port.specs.Served.{AreHeard, IsSpent}
 pub use Rattle.psci_port.specs.Stages.{has_stopped, is_armed, is_started, looks, Stage}
 pub use Rattle.psci_port.specs.Undone.{IsListed, LeavesLess, left_of}
 pub use Rattle.psci_port.specs.Waiting.{waits}
-pub use Rattle.psci_port.proofs.Locks.{Fits as FitsCall, IsKept}
-pub use Rattle.psci_port.proofs.Mirrors.{IsMirror}
-pub use Rattle.psci_port.proofs.Powering.{moves_left, touches_core}
-pub use Rattle.psci_port.proofs.Running.{run_kept}
-pub use Rattle.psci_port.proofs.Started.{starts_core}
-pub use Rattle.psci_port.proofs.Truth.{same_le, total_le}
+pub use Rattle.psci_port.proofs.Running.{Fits as FitsCall, IsKept, run_kept}
+pub use Rattle.psci_port.proofs.Truth.{IsMirror, same_le, total_le}
+pub use Rattle.psci_port.proofs.Power.{moves_left, touches_core}
+pub use Rattle.psci_port.proofs.Rows.{starts_core}
 pub use Rattle.psci_port.proofs.Undone.{ends_other, served_other}
 pub use Rattle.psci_fw.specs.Reactions.{FirmwareValue, seen as remembers}
 pub use Rattle.psci_control.specs.ControlSide.{closed, ControlValue, gate_in, gates_after, heard}
@@ -55,7 +53,7 @@ pub use Rattle.psci_control.specs.Orders.{ack_in, ending_of, orders_of}
 pub use Rattle.psci_control.specs.declared.door.DoorOrder.{DoorOrder}
 pub use Rattle.psci_control.specs.declared.gate.Gate.{Gate}
 pub use Rattle.psci_control.specs.declared.order.Order.{Order}
-pub use Rattle.psci_control.proofs.Apart.{apart_side}
+pub use Rattle.psci_control.proofs.Commanded.{apart_side}
 pub use Rattle.psci_enter.specs.Again.{outstanding_in}
 pub use Rattle.psci_enter.specs.Orders.{is_suspending}
 pub use Rattle.psci_enter.specs.Side.{at, IsAsked, looked, may_look, replied, reply_in}
@@ -64,8 +62,7 @@ pub use Rattle.psci_enter.specs.declared.post.Door.{Door}
 pub use Rattle.psci_enter.specs.declared.post.Post.{Post}
 pub use Rattle.psci_enter.specs.declared.post.Post.TheVariants.{Armed, Entering, Running, Waiting}
 pub use Rattle.psci_enter.specs.declared.side.FirmwareSide.{FirmwareSide}
-pub use Rattle.psci_enter.proofs.Keeping.{quiet_firmware}
-pub use Rattle.psci_enter.proofs.Standing.{row_same, takes_up}
+pub use Rattle.psci_enter.proofs.Keeping.{quiet_firmware, row_same, takes_up}
 pub use Rattle.psci_sides.specs.Frames.{IsEnding, IsLost, IsOut, IsUnderWay, IsWanted}
 pub use Rattle.psci_sides.specs.Kept.{Agree, executes, hearing, IsSound, NoneToServe, TakesItsLast}
 pub use Rattle.psci_sides.specs.Machine.{answered, cold, commanded, door_by, has_stood, IsIn}

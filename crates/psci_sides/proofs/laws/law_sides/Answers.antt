@@ -1,6 +1,6 @@
 -- Each step keeps the machine a machine of a port, and what holds of the port holds of it.
 use Rattle.psci_port.proofs.Truth.{run_world}
-use Rattle.psci_port.proofs.Started.{run_valued}
+use Rattle.psci_port.proofs.Rows.{run_valued}
 use Rattle.psci_sides.proofs.Words.{BoardValue, IsBoard}
 use Rattle.psci_sides.proofs.Sound.{agree, resting, sound}
 use Rattle.psci_sides.proofs.Finite.{all_served, finite, left_serves}
