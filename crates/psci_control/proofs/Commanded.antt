@@ -1,7 +1,7 @@
 -- What the power controller is asked keeps the rules of the port, and leaves a side of it.
-use Rattle.std.proofs.lemmas.Bool.Decides.{nat_tests}
 use Rattle.std.specs.Prelude.{◌&&◌, not}
-use Rattle.std.proofs.Common.{◌<◌, ◌==◌, ◌∙◌, ◌≡◌, ◌≤◌, ap, arith, Bool, cond, false}
+use Rattle.std.proofs.lemmas.Bool.Decides.{nat_tests}
+use Rattle.std.proofs.Common.{◌<◌, ◌==◌, ◌∙◌, ◌≤◌, ◌≡◌, ap, arith, Bool, cond, false}
 use Rattle.std.proofs.Common.{get_or-set_other, get_or-set_same, length, List, None, Option, refl}
 use Rattle.std.proofs.Common.{Some, subst, sym, true, ℕ}
 use Rattle.std.proofs.lemmas.Bool.{cases_eq, eq-eqb, eqb-true, false≢true}
@@ -18,23 +18,40 @@ use Rattle.psci_ctl_spec.specs.declared.call.CtlCall.TheVariants as calls
 use Rattle.psci_world_spec.specs.declared.event.Event.{Event}
 use Rattle.psci_world_spec.specs.declared.event.Event.TheVariants.{Deliver, Reset, Wake}
 use Rattle.psci_world_spec.specs.declared.said.Record.{Record}
-use Rattle.psci_port.specs.Port.{blank, cold, commanded, Delivers, first_row, Opens, Port, Resets}
-use Rattle.psci_port.specs.Port.{Rises, Row, row_by, stage_at, started, step, Wakes, words, Writes}
+use Rattle.psci_port.specs.Port.{Act, blank, cold, commanded, Delivers, first_row, Opens, Port}
+use Rattle.psci_port.specs.Port.{Resets, Rises, Row, row_by, stage_at, started, step, Wakes, words}
+use Rattle.psci_port.specs.Port.{Writes}
 use Rattle.psci_port.specs.Resting.{is_shown}
 use Rattle.psci_port.specs.Rules.{May}
 use Rattle.psci_port.specs.Stages.{has_stopped, is_armed, may_hold, Stage, Standing}
 use Rattle.psci_port.specs.Waiting.{touches}
-use Rattle.psci_port.proofs.Locks.{IsKept}
-use Rattle.psci_port.proofs.Running.{shown_is}
+use Rattle.psci_port.proofs.Running.{IsKept, shown_is}
 use Rattle.psci_control.specs.ControlSide.{ControlValue, door_due, effect_in, gate_in, gates_after}
 use Rattle.psci_control.specs.ControlSide.{heard, IsAsked, IsControlSide, ordered, telling}
 use Rattle.psci_control.specs.ControlSide.{values_of, waits_in, with_gate}
+use Rattle.psci_control.specs.SideOf.{ArmedLacks, is_apart, IsNew, IsRightly, IsSideOf}
 use Rattle.psci_control.specs.Orders.{ending_of}
-use Rattle.psci_control.specs.SideOf.{ArmedLacks, IsNew, IsRightly, IsSideOf}
 use Rattle.psci_control.specs.declared.door.DoorOrder.TheVariants.{Open, Write}
 use Rattle.psci_control.specs.declared.gate.Gate.{Gate}
 use Rattle.psci_control.specs.declared.order.Ending.TheVariants as endings
 use Rattle.psci_control.proofs.Asked.{blank_at, closed_at}
+
+-- Acts that are not its own ----------------------------------------------------------------------
+
+-- a row whose door is as before, and whose word is no earlier
+record IsLater (r q : Row) : Type 0 where
+  pub door : r.door ≡ q.door
+  pub opened : r.opened ≡ q.opened
+  pub word : r.stopped ≤ q.stopped
+
+module _ (b : BoardValue) (p : Port) (s : ControlValue) (side : IsSideOf b s p)
+    (kept : IsKept p) where
+  stood : (c : ℕ) → (p.row c).stopped ≤ (p.row c).used
+  stood c = (kept.rows c).stood
+
+  pub apart_side : (act : Act) → is_apart act ≡ true → IsSideOf b s (step b p act)
+  unfolding step
+  apart_side act is = grind (arith, nat_tests)
 
 -- Sides -------------------------------------------------------------------------------------------
 -- Each step of the power controller's side keeps the rules of the port, and leaves a side of it.

@@ -32,16 +32,16 @@ use Rattle.psci_port.specs.Port.{step, Takes}
 use Rattle.psci_port.specs.Rules.{HasLock, IsTrue, May}
 use Rattle.psci_port.specs.Stages as stages
 use Rattle.psci_port.specs.Stages.{Stage, stage_said}
-use Rattle.psci_port.proofs.Locks.{Fits as FitsCall, IsKept}
-use Rattle.psci_port.proofs.Mirrors.{IsDue, IsMirror}
+use Rattle.psci_port.proofs.Running.{Fits as FitsCall, IsKept}
+use Rattle.psci_port.proofs.Truth.{IsDue, IsMirror}
 use Rattle.psci_fw.specs.Reactions.{FirmwareValue, seen}
 use Rattle.psci_enter.specs.Side.{IsAsked, replied, reply_in}
 use Rattle.psci_enter.specs.SideOf.{core_of, Fits, IsAnew, IsFirmwareOf, IsSideOf}
 use Rattle.psci_enter.specs.declared.post.Post.TheVariants.{Entering, Running}
 use Rattle.psci_enter.specs.declared.side.FirmwareSide.{FirmwareSide}
-use Rattle.psci_enter.proofs.Keeping.{called_reply, entered_reply, entry_out, life_of, one_entry}
-use Rattle.psci_enter.proofs.Keeping.{some_ack, taken_reply}
-use Rattle.psci_enter.proofs.Values.{called_values, entered_values, taken_values}
+use Rattle.psci_enter.proofs.Keeping.{called_reply, called_values, entered_reply, entered_values}
+use Rattle.psci_enter.proofs.Keeping.{entry_out, life_of, one_entry, some_ack, taken_reply}
+use Rattle.psci_enter.proofs.Keeping.{taken_values}
 
 -- A call ends ------------------------------------------------------------------------------------
 

@@ -1,5 +1,3 @@
-pub mod Values
-pub mod Standing
 pub mod Keeping
 pub mod Ending
 pub mod Others

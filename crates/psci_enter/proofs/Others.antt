@@ -33,9 +33,9 @@ use Rattle.psci_port.specs.Rules.{May}
 use Rattle.psci_port.specs.Stages.{has_stopped, Stage, stage_by, started_at}
 use Rattle.psci_port.specs.Waiting.{stands, touches}
 use Rattle.psci_port.proofs.Records.{delivered_held, held_after, woken_held}
-use Rattle.psci_port.proofs.Locks.{IsKept}
-use Rattle.psci_port.proofs.Started.{delivered_starts, delivered_touches, reset_starts_it}
-use Rattle.psci_port.proofs.Started.{starts_core, woken_starts}
+use Rattle.psci_port.proofs.Running.{IsKept}
+use Rattle.psci_port.proofs.Rows.{delivered_starts, delivered_touches, reset_starts_it, starts_core}
+use Rattle.psci_port.proofs.Rows.{woken_starts}
 use Rattle.psci_fw_state.specs.Seen.{message_shown}
 use Rattle.psci_fw.specs.Reactions.{FirmwareValue, seen}
 use Rattle.psci_enter.specs.Again.{outstanding_in}

@@ -1,35 +1,26 @@
 -- Each act that is due leaves less to do, where the firmware answers as it is defined.
-use Rattle.std.proofs.lemmas.Bool.Decides.{nat_tests}
-use Rattle.std.proofs.Common.{◌+◌, ◌<◌, ◌∙◌, ◌∷◌, ◌≡◌, ◌≤◌, ap, arith, Bool, false, length, List}
-use Rattle.std.proofs.Common.{None, Option, refl, Some, subst, sym, true, ℕ}
-use Rattle.std.proofs.lemmas.Bool.{cond-false, cond-true, eq-eqb, false≢true, ne_eqb}
-use Rattle.std.proofs.lemmas.Option.{none-some}
-use Rattle.psci_board.specs.Board.{BoardValue, cores}
-use Rattle.psci_ctl_spec.specs.Replies.{last_start}
-use Rattle.psci_ctl_spec.specs.psci_messages.declared.start.Start.{Start}
-use Rattle.psci_world_spec.specs.Legal.{asked_firmware, firmware_values, sent, sent_as}
-use Rattle.psci_world_spec.specs.declared.event.Event.{Event}
-use Rattle.psci_world_spec.specs.declared.event.Event.TheVariants.{Enter}
-use Rattle.psci_world_spec.specs.declared.said.Record.{Record}
-use Rattle.psci_world_spec.specs.declared.said.Said.{Said}
-use Rattle.psci_world_spec.specs.declared.said.Said.TheVariants.{Fw}
+use Rattle.psci_world_spec.specs.Legal.{sent}
 use Rattle.psci_world_spec.specs.psci_fw_spec.Answer.{answer, enter_outcome}
 use Rattle.psci_world_spec.specs.psci_fw_spec.declared.call.FwCall.TheVariants as calls
 use Rattle.psci_world_spec.specs.psci_fw_spec.declared.outcome.Act.{Act as Outcome}
 use Rattle.psci_headline.specs.Laws.{NoneRefused}
-use Rattle.psci_port.specs.Port.{Act, Arms, ended, Enters, finished, Finishes, Locks, Opens, Port}
-use Rattle.psci_port.specs.Port.{Row, Sleeps, stage_at, Stands, state, step, stopping, TakesUp}
-use Rattle.psci_port.specs.Port.{taking_up, Turns, Unlocks, with_row, Writes}
-use Rattle.psci_port.specs.Resting.{call_left, core_left, door_left, has_lock, is_entering}
-use Rattle.psci_port.specs.Resting.{IsDue, left, own_left, row_left, stage_left, start_left}
-use Rattle.psci_port.specs.Rules.{IsPortRun}
-use Rattle.psci_port.specs.Stages.{Armed, AtDoor, Entering, Leaving, may_hold, Normal, Stage}
-use Rattle.psci_port.specs.Stages.{stage_after, stage_in, stage_said, Standing, Woken}
-use Rattle.psci_port.proofs.Locks.{Fits, IsKept}
-use Rattle.psci_port.proofs.Mirrors.{IsDue as IsSaid, IsMirror}
+use Rattle.psci_port.specs.Port.{state, step}
+use Rattle.psci_port.specs.Resting.{call_left, door_left, left, own_left, stage_left, start_left}
+use Rattle.psci_port.specs.Stages.{stage_after}
+use Rattle.psci_port.proofs.Words.{◌+◌, ◌<◌, ◌∙◌, ◌∷◌, ◌≤◌, ◌≡◌, Act, ap, arith, Armed, Arms}
+use Rattle.psci_port.proofs.Words.{asked_firmware, AtDoor, BoardValue, Bool, cond-false, cond-true}
+use Rattle.psci_port.proofs.Words.{core_left, cores, ended, Enter, Entering, Enters, eq-eqb, Event}
+use Rattle.psci_port.proofs.Words.{false, false≢true, finished, Finishes, firmware_values, Fw}
+use Rattle.psci_port.proofs.Words.{has_lock, is_entering, IsDue, IsPortRun, last_start, Leaving}
+use Rattle.psci_port.proofs.Words.{length, List, Locks, may_hold, nat_tests, ne_eqb, None}
+use Rattle.psci_port.proofs.Words.{none-some, Normal, Opens, Option, Port, Record, refl, Row}
+use Rattle.psci_port.proofs.Words.{row_left, Said, sent_as, Sleeps, Some, Stage, stage_at, stage_in}
+use Rattle.psci_port.proofs.Words.{stage_said, Standing, Stands, Start, stopping, subst, sym}
+use Rattle.psci_port.proofs.Words.{TakesUp, taking_up, true, Turns, Unlocks, with_row, Woken}
+use Rattle.psci_port.proofs.Words.{Writes, ℕ}
+use Rattle.psci_port.proofs.Running.{Fits, IsKept, run_kept, shown_itself}
+use Rattle.psci_port.proofs.Truth.{IsDue as IsSaid, IsMirror, same_le, total_less}
 use Rattle.psci_port.proofs.Records.{open_last}
-use Rattle.psci_port.proofs.Running.{run_kept, shown_itself}
-use Rattle.psci_port.proofs.Truth.{same_le, total_less}
 
 -- One core moves ---------------------------------------------------------------------------------
 

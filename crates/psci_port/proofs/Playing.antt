@@ -1,30 +1,25 @@
 -- Worked examples are stated so: acts in turn, and which clauses fail after them. An act that
 -- breaks a rule is played as any other.
-use Rattle.std.specs.Prelude.{◌&&◌, ◌||◌, if◌then◌else◌, is_some, nat_le, nat_lt, not}
-use Rattle.std.proofs.Common.{◌++◌, ◌==◌, ◌∷◌, [], arith, Bool, List, None, Option, Some, true, ℕ}
-use Rattle.psci_board.specs.Board.{BoardValue, up}
-use Rattle.psci_ctl_spec.specs.History.{IsSendable}
-use Rattle.psci_ctl_spec.specs.Replies.{last_start}
-use Rattle.psci_ctl_spec.specs.Values.{Values}
-use Rattle.psci_ctl_spec.specs.psci_messages.Message.{AckValue, MessageValue}
-use Rattle.psci_ctl_spec.specs.psci_messages.declared.kind.Kind.{Kind}
+use Rattle.std.specs.Prelude.{if◌then◌else◌, is_some, nat_le, nat_lt}
+use Rattle.std.proofs.Common.{◌++◌}
 use Rattle.psci_ctl_spec.specs.psci_messages.declared.kind.Kind.TheVariants as kinds
 use Rattle.psci_ctl_spec.specs.psci_messages.declared.kind.Kind.TheVariants.{Down, Off}
-use Rattle.psci_ctl_spec.specs.psci_messages.declared.part.Part.{Part}
 use Rattle.psci_ctl_spec.specs.psci_messages.declared.start.Cause.TheVariants as causes
-use Rattle.psci_ctl_spec.specs.psci_messages.declared.start.Start.{Start}
-use Rattle.psci_world_spec.specs.Legal.{acks, asked_firmware, indexed, sent}
-use Rattle.psci_world_spec.specs.declared.said.Said.{Said}
+use Rattle.psci_world_spec.specs.Legal.{acks, sent}
 use Rattle.psci_world_spec.specs.declared.said.Said.TheVariants.{Absent}
 use Rattle.psci_world_spec.specs.psci_fw_spec.declared.call.FwCall.TheVariants as calls
 use Rattle.psci_world_spec.proofs.Scripts.{board, computing, part, tall}
 use Rattle.psci_headline.specs.Test.{at_each_core, at_each_level}
-use Rattle.psci_port.specs.Port.{Act, Calls, cold, Delivers, Enters, Finishes, Locks, Opens}
-use Rattle.psci_port.specs.Port.{Port, stage_at, Stands, state, step, Takes, TakesUp, Unlocks}
-use Rattle.psci_port.specs.Port.{words, Writes}
+use Rattle.psci_port.specs.Port.{state, step}
 use Rattle.psci_port.specs.Rebooted.{rebooted}
-use Rattle.psci_port.specs.Resting.{is_shown}
-use Rattle.psci_port.specs.Stages.{Entering, executes, has_stopped, may_hold, Stage}
+use Rattle.psci_port.specs.Stages.{executes}
+use Rattle.psci_port.proofs.Words.{◌&&◌, ◌==◌, ◌||◌, ◌∷◌, [], AckValue, Act, arith, asked_firmware}
+use Rattle.psci_port.proofs.Words.{BoardValue, Bool, Calls, cold, Delivers, Entering, Enters}
+use Rattle.psci_port.proofs.Words.{Finishes, has_stopped, indexed, is_shown, IsSendable, Kind}
+use Rattle.psci_port.proofs.Words.{last_start, List, Locks, may_hold, MessageValue, None, not}
+use Rattle.psci_port.proofs.Words.{Opens, Option, Part, Port, Said, Some, Stage, stage_at, Stands}
+use Rattle.psci_port.proofs.Words.{Start, Takes, TakesUp, true, Unlocks, up, Values, words, Writes}
+use Rattle.psci_port.proofs.Words.{ℕ}
 
 -- Acts in turn -----------------------------------------------------------------------------------
 

@@ -1,34 +1,27 @@
 -- Worked examples: what a port has written down after acts, which messages wait there, what a life
 -- leaves as it ends or begins, and which acts and runs count.
-use Rattle.std.proofs.Common.{◌≡◌, ◌∷◌, ◌++◌, [], arith, Bool, false, length, List, map, None}
-use Rattle.std.proofs.Common.{Option, refl, reverse, Some, true, ℕ}
+use Rattle.std.proofs.Common.{◌++◌, map, reverse}
 use Rattle.std.proofs.lemmas.Bool.{eqb-false}
-use Rattle.std.proofs.lemmas.Option.{none-some}
-use Rattle.std.specs.Prelude.{take}
 use Rattle.psci_board.proofs.Tables.{◌⇒◌, Gives}
-use Rattle.psci_board.specs.Board.{BoardValue}
-use Rattle.psci_ctl_spec.specs.psci_messages.Message.{MessageValue}
 use Rattle.psci_ctl_spec.specs.psci_messages.declared.kind.Kind.TheVariants.{Down, Reset, Start}
 use Rattle.psci_ctl_spec.specs.psci_messages.declared.start.Cause.TheVariants as causes
-use Rattle.psci_ctl_spec.specs.declared.call.CtlCall.{CtlCall}
 use Rattle.psci_ctl_spec.specs.declared.call.CtlCall.TheVariants as asked
-use Rattle.psci_world_spec.specs.declared.event.Event.TheVariants.{Deliver, Enter}
-use Rattle.psci_world_spec.specs.declared.said.Record.{Record}
-use Rattle.psci_world_spec.specs.declared.said.Said.{Said}
 use Rattle.psci_world_spec.specs.declared.said.Said.TheVariants.{Ignored}
 use Rattle.psci_world_spec.proofs.Scripts.{acked, asks_on, board, enters as enters_at, goes_down}
-use Rattle.psci_world_spec.proofs.Scripts.{halts, one_core, part, resumes, system_reset}
-use Rattle.psci_port.specs.Kept.{AreLegal, AreSafe, EachTakesItsLast, runs}
+use Rattle.psci_world_spec.proofs.Scripts.{part, resumes, system_reset}
+use Rattle.psci_port.specs.Kept.{AreLegal, AreSafe, EachTakesItsLast}
 use Rattle.psci_port.specs.Rebooted.{rebooted}
-use Rattle.psci_port.specs.Stages.{Stage, Standing, AtDoor, Entering, Normal, Leaving, Armed, Woken}
-use Rattle.psci_port.specs.Stages.{executes, is_started, may_hold, roused_at, stage_by, started_at}
-use Rattle.psci_port.specs.Port.{Act, Locks, Finishes, TakesUp, Delivers, Wakes, Resets, Writes}
-use Rattle.psci_port.specs.Port.{Opens, Restarts, Reboots, held_by, stage_at, words}
-use Rattle.psci_port.specs.Waiting.{waits}
+use Rattle.psci_port.specs.Stages.{executes, stage_by, started_at}
+use Rattle.psci_port.proofs.Words.{◌∷◌, ◌≡◌, [], Act, arith, Armed, AtDoor, Bool, CtlCall, Deliver}
+use Rattle.psci_port.proofs.Words.{Enter, Entering, false, Finishes, held_by, is_started, Leaving}
+use Rattle.psci_port.proofs.Words.{length, List, Locks, may_hold, MessageValue, None, none-some}
+use Rattle.psci_port.proofs.Words.{Normal, Opens, Option, Reboots, Record, refl, Restarts}
+use Rattle.psci_port.proofs.Words.{roused_at, runs, Said, Some, Stage, stage_at, Standing, take}
+use Rattle.psci_port.proofs.Words.{TakesUp, true, waits, Wakes, Woken, words, Writes, ℕ}
 use Rattle.psci_port.proofs.CellRows.{both_come, life_1, reset_in_the_dark, started_meanwhile}
 use Rattle.psci_port.proofs.CellRows.{system_ends, torn_and_gone_on, torn_twice}
-use Rattle.psci_port.proofs.Playing.{Awake, after, asks, comes, delivers, door, down_3, failing}
-use Rattle.psci_port.proofs.Playing.{of_3, off_3, off_called, on_3, playing, start_of}
+use Rattle.psci_port.proofs.Playing.{after, asks, comes, delivers, door, down_3, of_3, off_3}
+use Rattle.psci_port.proofs.Playing.{off_called, playing, start_of}
 
 -- What is written down ---------------------------------------------------------------------------
 
@@ -60,19 +53,6 @@ ends_two_lives : map (λ r. r.event) (rebooted board 2)
     ≡ Deliver 1 ∷ system_reset 0 ∷ Enter 0 ∷ Deliver 0 ∷ system_reset 0 ∷ Enter 0 ∷ []
 unfolding playing
 ends_two_lives = refl
-
-abbrev said_of_lives : BoardValue × ℕ → List Said
-said_of_lives (b, lives) = map (λ r. r.said) (rebooted b lives)
-
-is_said_of_lives : Gives said_of_lives
-    ((board, 2)
-    ⇒ (acked 1 Reset 0 2 1 1 false ∷ halts 1 Reset 0 2 1 ∷ enters_at 0x40000000 0
-    ∷ acked 0 Reset 0 1 1 1 false ∷ halts 0 Reset 0 1 1 ∷ enters_at 0x40000000 0 ∷ [])
-    ∷ (one_core, 1)
-    ⇒ (acked 0 Reset 0 1 1 1 false ∷ halts 0 Reset 0 1 1 ∷ enters_at 0x40000000 0 ∷ [])
-    ∷ (board, 0) ⇒ [] ∷ [])
-unfolding playing
-is_said_of_lives = refl
 
 -- each run is kept, the last one first: that of the boot core's entry, its call and the delivery
 keeps_each_run : Gives (λ acts. map (λ past. length past) (runs (after acts)))
@@ -115,32 +95,7 @@ nobody_inside : Gives kept
 unfolding playing
 nobody_inside = refl
 
-nothing_begun : map (λ acts. ((after acts).row 3).begun)
-    (torn_and_gone_on ∷ system_ends 0x84000008 ∷ []) ≡ None ∷ None ∷ []
-unfolding playing
-nothing_begun = refl
-
--- and the boot core comes by the first start of its life
-comes_in_its_life : Gives (λ acts. stage_at (after (acts ++ door 0 ++ (TakesUp 0 ∷ []))) 0)
-    (torn_and_gone_on ⇒ Entering (record { life = 2; number = 1; cause = causes.Boot })
-    ∷ torn_twice ⇒ Entering (record { life = 3; number = 1; cause = causes.Boot }) ∷ [])
-unfolding playing
-comes_in_its_life = refl
-
 -- Doors ------------------------------------------------------------------------------------------
-
--- where core 3 is, whether it is held, and the starts for which its door was opened and that it
--- used
-abbrev at_door : List Act → Stage × Bool × ℕ × ℕ
-at_door acts = let r = (after acts).row 3 in (r.stage, r.held, r.opened, r.used)
-
--- one that is reset at its open door is held there; and a door that is opened before its start is
--- written shows none, and that opening is used
-looks_in_turn : Gives at_door
-    ((on_3 ++ door 3 ++ (Resets 3 ∷ [])) ⇒ (AtDoor, true, 1, 0)
-    ∷ (on_3 ++ (Opens 3 ∷ TakesUp 3 ∷ Writes 3 ∷ [])) ⇒ (AtDoor, false, 1, 1) ∷ [])
-unfolding playing
-looks_in_turn = refl
 
 -- a core is held by its reset alone
 holds_by_cause : map {B = Bool × Bool} (λ cause. (held_by cause false, held_by cause true))
@@ -188,11 +143,6 @@ each_waits : Gives waits_for
     ∷ [])
 unfolding playing
 each_waits = refl
-
--- by its number it would not wait
-cuts_by_its_number : failing (both_come 0 ++ (Delivers 9 torn ∷ [])) ≡ Awake ∷ []
-unfolding playing
-cuts_by_its_number = refl
 
 -- Each act and each run counts -------------------------------------------------------------------
 

@@ -1,32 +1,15 @@
 -- A run of lives that the boot core ended leaves the power controller as it goes on.
-use Rattle.std.proofs.Common.{◌<◌, ◌∙◌, ◌∷◌, ◌≡◌, [], ap, arith, false, length, List, None, Option}
-use Rattle.std.proofs.Common.{refl, Some, subst, suc, sym, zero, ℕ}
 use Rattle.std.proofs.Math.Numerals.{suc-eq-add-one}
-use Rattle.std.proofs.lemmas.Bool.{cond-false, cond-true, lt-ltb, ne_eqb}
-use Rattle.std.proofs.lemmas.Bool.Decides.{nat_tests}
-use Rattle.psci_board.specs.Board.{BoardValue, cores}
-use Rattle.psci_ctl_spec.specs.Replies.{after, Begins, change, delivery_of, effect_of, last_start}
-use Rattle.psci_ctl_spec.specs.Replies.{reply}
-use Rattle.psci_ctl_spec.specs.Values.{CtlExchange, first_cause, first_depth, first_starts}
-use Rattle.psci_ctl_spec.specs.Values.{start_of_life, Values}
-use Rattle.psci_ctl_spec.specs.History.{values_of}
+use Rattle.psci_ctl_spec.specs.Replies.{after, delivery_of, effect_of, reply}
+use Rattle.psci_ctl_spec.specs.Values.{first_cause}
 use Rattle.psci_ctl_spec.specs.declared.call.CtlCall.TheVariants as asked
-use Rattle.psci_ctl_spec.specs.psci_messages.Message.{MessageValue}
 use Rattle.psci_ctl_spec.specs.psci_messages.declared.kind.Kind.TheVariants as kinds
 use Rattle.psci_ctl_spec.specs.psci_messages.declared.start.Cause.TheVariants as causes
-use Rattle.psci_ctl_spec.specs.psci_messages.declared.start.Start.{Start}
-use Rattle.psci_world_spec.specs.Legal.{acks, controller_history, controller_values}
-use Rattle.psci_world_spec.specs.Legal.{firmware_history, firmware_values, indexed, IsLegalPast}
-use Rattle.psci_world_spec.specs.Legal.{legal, place, said_by, said_of, sent, sent_as}
-use Rattle.psci_world_spec.specs.declared.event.Event.TheVariants.{Call, Deliver, Enter}
+use Rattle.psci_world_spec.specs.Legal.{acks, controller_history, firmware_history, legal, place}
+use Rattle.psci_world_spec.specs.Legal.{sent}
 use Rattle.psci_world_spec.specs.declared.place.Place.{Place}
-use Rattle.psci_world_spec.specs.declared.place.Place.TheVariants.{Running, Started, Stopped}
-use Rattle.psci_world_spec.specs.declared.said.Record.{Record}
-use Rattle.psci_world_spec.specs.declared.said.Said.{Said}
-use Rattle.psci_world_spec.specs.declared.said.Said.TheVariants.{Fw}
 use Rattle.psci_world_spec.specs.psci_fw_spec.Effects as later
 use Rattle.psci_world_spec.specs.psci_fw_spec.Answer.{answer, enter_outcome, outcome_of}
-use Rattle.psci_world_spec.specs.psci_fw_spec.Effects.{FwExchange}
 use Rattle.psci_world_spec.specs.psci_fw_spec.History as remembers
 use Rattle.psci_world_spec.specs.psci_fw_spec.Changes as lives
 use Rattle.psci_world_spec.specs.psci_fw_spec.PowerCalls.{message_for, stops_with}
@@ -36,10 +19,16 @@ use Rattle.psci_world_spec.specs.psci_fw_spec.declared.call.FwCall.TheVariants a
 use Rattle.psci_world_spec.specs.psci_fw_spec.declared.outcome.Act.TheVariants as outcomes
 use Rattle.psci_world_spec.specs.psci_fw_spec.declared.outcome.Outcome.{Outcome}
 use Rattle.psci_world_spec.specs.psci_fw_spec.declared.reply.FwReply.TheVariants as replies
-use Rattle.psci_headline.proofs.Serving.{numbered_new}
-use Rattle.psci_port.specs.Port.{blank, first_row, Row}
 use Rattle.psci_port.specs.Rebooted.{followed, rebooted, reset_call}
-use Rattle.psci_port.specs.Stages.{AtDoor, Normal, place_of, Standing}
+use Rattle.psci_port.proofs.Words.{◌<◌, ◌∙◌, ◌∷◌, ◌≡◌, [], ap, arith, AtDoor, Begins, blank}
+use Rattle.psci_port.proofs.Words.{BoardValue, Call, change, cond-false, cond-true}
+use Rattle.psci_port.proofs.Words.{controller_values, cores, CtlExchange, Deliver, Enter, false}
+use Rattle.psci_port.proofs.Words.{firmware_values, first_depth, first_row, first_starts, Fw}
+use Rattle.psci_port.proofs.Words.{FwExchange, indexed, IsLegalPast, last_start, length, List}
+use Rattle.psci_port.proofs.Words.{lt-ltb, MessageValue, nat_tests, ne_eqb, None, Normal}
+use Rattle.psci_port.proofs.Words.{numbered_new, Option, place_of, Record, refl, Row, Running, Said}
+use Rattle.psci_port.proofs.Words.{said_by, said_of, sent_as, Some, Standing, Start, start_of_life}
+use Rattle.psci_port.proofs.Words.{Started, Stopped, subst, suc, sym, Values, values_of, zero, ℕ}
 use Rattle.psci_port.proofs.Records.{call_legal, deliver_legal, enter_legal, Moves, moves}
 
 -- Booting -----------------------------------------------------------------------------------------

@@ -1,43 +1,32 @@
 -- What a record leaves of the world: where each core is, what the power controller keeps, and what
 -- the firmware answers next.
-use Rattle.std.proofs.Common.{◌++◌, ◌<◌, ◌==◌, ◌∙◌, ◌∷◌, ◌≡◌, ap, arith, Bool, cond, false, length}
-use Rattle.std.proofs.Common.{List, None, Option, Some, subst, sym, true, ℕ}
-use Rattle.std.proofs.lemmas.Bool.Decides.{nat_tests}
-use Rattle.psci_board.specs.Board.{BoardValue, cores}
-use Rattle.psci_ctl_spec.specs.Replies.{ack_by, after, change, delivery_of, Effect, effect_of}
-use Rattle.psci_ctl_spec.specs.Replies.{is_this_life, kick_effect, last_start, reply, reset_of}
-use Rattle.psci_ctl_spec.specs.Replies.{Starts, wake_of}
-use Rattle.psci_ctl_spec.specs.Values.{CtlExchange, Values}
-use Rattle.psci_ctl_spec.specs.History.{values_of}
-use Rattle.psci_ctl_spec.specs.declared.call.CtlCall.{CtlCall}
+use Rattle.std.proofs.Common.{◌++◌}
+use Rattle.psci_ctl_spec.specs.Replies.{after, delivery_of, effect_of, reply}
 use Rattle.psci_ctl_spec.specs.declared.call.CtlCall.TheVariants as asked
 use Rattle.psci_ctl_spec.specs.declared.delivery.Delivery.TheVariants as deliveries
-use Rattle.psci_ctl_spec.specs.declared.kick.Kick.{Kick}
 use Rattle.psci_ctl_spec.specs.declared.reply.CtlReply.{CtlReply}
 use Rattle.psci_ctl_spec.specs.declared.reply.CtlReply.TheVariants as replies
-use Rattle.psci_ctl_spec.specs.psci_messages.Message.{AckValue, MessageValue}
 use Rattle.psci_ctl_spec.specs.psci_messages.declared.start.Cause.TheVariants as causes
-use Rattle.psci_ctl_spec.specs.psci_messages.declared.start.Start.{Start}
-use Rattle.psci_world_spec.specs.Legal.{acks, asked_controller, asked_firmware, controller_history}
-use Rattle.psci_world_spec.specs.Legal.{controller_values, deliver, firmware_history}
-use Rattle.psci_world_spec.specs.Legal.{firmware_values, if_running, indexed, legal, on_board}
-use Rattle.psci_world_spec.specs.Legal.{place, said_by, said_of, sent, sent_in, take}
-use Rattle.psci_world_spec.specs.declared.event.Event.{Event}
-use Rattle.psci_world_spec.specs.declared.event.Event.TheVariants.{Call, Deliver, Enter, Reset}
-use Rattle.psci_world_spec.specs.declared.event.Event.TheVariants.{Take, Wake}
-use Rattle.psci_world_spec.specs.declared.place.Place.TheVariants.{Running, Started, Stopped}
-use Rattle.psci_world_spec.specs.declared.said.Record.{Record}
-use Rattle.psci_world_spec.specs.declared.said.Said.{Said}
+use Rattle.psci_world_spec.specs.Legal.{acks, asked_controller, controller_history, deliver}
+use Rattle.psci_world_spec.specs.Legal.{firmware_history, if_running, legal, on_board, place, sent}
+use Rattle.psci_world_spec.specs.Legal.{sent_in, take}
 use Rattle.psci_world_spec.specs.psci_abi.declared.registers.Regs.{Regs}
 use Rattle.psci_world_spec.specs.psci_fw_spec.Answer.{answer}
 use Rattle.psci_world_spec.specs.psci_fw_spec.Effects.{listed}
 use Rattle.psci_world_spec.specs.psci_fw_spec.Values as remembered
 use Rattle.psci_world_spec.specs.psci_fw_spec.declared.call.FwCall.{FwCall}
 use Rattle.psci_world_spec.specs.psci_fw_spec.declared.call.FwCall.TheVariants as calls
-use Rattle.psci_headline.proofs.Serving.{numbered_old}
-use Rattle.psci_port.specs.Port.{held_by, Row, row_by, stopping}
-use Rattle.psci_port.specs.Stages.{AtDoor, has_stopped, is_inside, is_started, place_of, roused_at}
-use Rattle.psci_port.specs.Stages.{Stage, stage_in, Standing, Woken}
+use Rattle.psci_port.proofs.Words.{◌<◌, ◌==◌, ◌∙◌, ◌∷◌, ◌≡◌, ack_by, AckValue, ap, arith}
+use Rattle.psci_port.proofs.Words.{asked_firmware, AtDoor, BoardValue, Bool, Call, change, cond}
+use Rattle.psci_port.proofs.Words.{controller_values, cores, CtlCall, CtlExchange, Deliver, Effect}
+use Rattle.psci_port.proofs.Words.{Enter, Event, false, firmware_values, has_stopped, held_by}
+use Rattle.psci_port.proofs.Words.{indexed, is_inside, is_started, is_this_life, Kick, kick_effect}
+use Rattle.psci_port.proofs.Words.{last_start, length, List, MessageValue, nat_tests, None}
+use Rattle.psci_port.proofs.Words.{numbered_old, Option, place_of, Record, Reset, reset_of}
+use Rattle.psci_port.proofs.Words.{roused_at, Row, row_by, Running, Said, said_by, said_of, Some}
+use Rattle.psci_port.proofs.Words.{Stage, stage_in, Standing, Start, Started, Starts, Stopped}
+use Rattle.psci_port.proofs.Words.{stopping, subst, sym, Take, true, Values, values_of, Wake}
+use Rattle.psci_port.proofs.Words.{wake_of, Woken, ℕ}
 use Rattle.psci_port.proofs.Rows.{entering_by, IsRow}
 
 -- An interrupt ---------------------------------------------------------------------------------

@@ -1,17 +1,15 @@
 -- Worked examples: how much is due in a port, which start stands at a door, and ports that are at
 -- rest or not.
-use Rattle.std.proofs.Common.{◌≡◌, ◌∷◌, ◌++◌, [], arith, Bool, false, List, map, None, refl}
-use Rattle.std.proofs.Common.{Some, true, ℕ}
+use Rattle.std.proofs.Common.{◌++◌, map}
 use Rattle.psci_board.proofs.Tables.{◌⇒◌, Gives}
 use Rattle.psci_ctl_spec.specs.psci_messages.declared.start.Cause.TheVariants as causes
-use Rattle.psci_world_spec.specs.declared.event.Event.TheVariants.{Call, Enter, Take}
 use Rattle.psci_world_spec.proofs.Scripts.{board}
-use Rattle.psci_port.specs.Stages.{Standing, AtDoor, Entering, Normal, Leaving, Armed, Woken}
-use Rattle.psci_port.specs.Port.{Act, Locks, Unlocks, TakesUp, Arms, Rises, Writes, Port, Row}
-use Rattle.psci_port.specs.Port.{with_row}
-use Rattle.psci_port.specs.Resting.{IsAtRest, IsQuiet, call_left, cause_code, has_lock, is_shown}
-use Rattle.psci_port.specs.Resting.{left, own_left, total}
-use Rattle.psci_port.proofs.CellRows.{both_come, life_1, off_by}
+use Rattle.psci_port.specs.Resting.{cause_code, IsQuiet, left, own_left, total}
+use Rattle.psci_port.proofs.Words.{◌∷◌, ◌≡◌, [], arith, Armed, Arms, AtDoor, Bool, Entering, false}
+use Rattle.psci_port.proofs.Words.{has_lock, is_shown, Leaving, Locks, None, Normal, Port, refl}
+use Rattle.psci_port.proofs.Words.{Rises, Row, Some, Standing, TakesUp, true, with_row, Woken}
+use Rattle.psci_port.proofs.Words.{Writes, ℕ}
+use Rattle.psci_port.proofs.CellRows.{life_1}
 use Rattle.psci_port.proofs.Playing.{after, comes, door, enters, off_3, off_called, on_3, playing}
 use Rattle.psci_port.proofs.Playing.{start_of}
 
@@ -38,10 +36,6 @@ each_stage : map {B = ℕ × ℕ} (λ y. (own_left true y, own_left false y))
     (Standing ∷ AtDoor ∷ Entering (start_of 1 2) ∷ Normal ∷ Leaving ∷ Armed ∷ Woken ∷ [])
     ≡ (0, 0) ∷ (0, 0) ∷ (7, 8) ∷ (1, 0) ∷ (4, 3) ∷ (2, 1) ∷ (2, 1) ∷ []
 each_stage = refl
-
-each_call : (call_left (Call 3 (record { x0 = 0; x1 = 0; x2 = 0; x3 = 0 })) 1 ≡ 6)
-    × (call_left (Enter 0) 7 ≡ 6) × (call_left (Take 4) 1 ≡ 2) × (call_left (Take 0) 4 ≡ 5)
-each_call = (refl, refl, refl, refl)
 
 whose_lock : map {B = Bool × Bool} (λ lock. (has_lock lock 0, has_lock lock 3))
     (None ∷ Some 3 ∷ Some 0 ∷ [])
@@ -77,17 +71,3 @@ quiet_core : IsQuiet (after off_3) 3
     × (IsQuiet (with_3 (record off_row { used = 0 })) 3 → ⊥)
 unfolding playing
 quiet_core = search arith
-
-abbrev Restless : List Act → Type 0
-Restless acts = IsAtRest board (after acts) → ⊥
-
--- a core has the lock, and is at its door, the boot core in life 2 too, enters, leaves, is armed or
--- woken
-restless : Restless (door 0 ++ comes 0 ++ (Locks 0 ∷ [])) × Restless off_called
-    × Restless [] × Restless life_1 × Restless on_3
-    × Restless (on_3 ++ door 3 ++ (TakesUp 3 ∷ []))
-    × Restless (both_come 0 ++ off_by 3 ++ (Unlocks 3 ∷ []))
-    × Restless (both_come 0 ++ off_by 3 ++ (Arms 3 ∷ Unlocks 3 ∷ []))
-    × Restless (both_come 0 ++ off_by 3 ++ (Arms 3 ∷ Rises 3 ∷ Unlocks 3 ∷ []))
-unfolding playing
-restless = search arith

@@ -1,21 +1,17 @@
 -- Worked examples: acts that the rules of a port refuse, and some that they allow; which acts are
 -- due, of the boot core and of another one, in life 1 and in life 2; and which never are.
-use Rattle.std.proofs.Common.{◌≡◌, ◌∷◌, ◌++◌, [], arith, List, None, Option, refl, Some, true, ℕ}
+use Rattle.std.proofs.Common.{◌++◌}
 use Rattle.std.specs.Prelude.{is_some}
-use Rattle.std.proofs.lemmas.Bool.{false≢true}
-use Rattle.std.proofs.lemmas.Option.{none-some}
 use Rattle.psci_ctl_spec.specs.psci_messages.declared.kind.Kind.TheVariants as kinds
-use Rattle.psci_ctl_spec.specs.psci_messages.declared.start.Start.{Start}
-use Rattle.psci_world_spec.specs.declared.said.Record.{Record}
 use Rattle.psci_world_spec.specs.declared.said.Said.TheVariants.{Absent}
 use Rattle.psci_world_spec.proofs.Scripts.{board, limited}
-use Rattle.psci_port.specs.Stages.{Stage, Entering, Armed}
-use Rattle.psci_port.specs.Port.{Act, Locks, Unlocks, Enters, Takes, Finishes, TakesUp, Stands}
-use Rattle.psci_port.specs.Port.{Arms, Sleeps, Delivers, Wakes, Resets, Rouses, Rises, Turns}
-use Rattle.psci_port.specs.Port.{Writes, Opens, Cuts, Port, Restarts, Reboots, blank, cold}
-use Rattle.psci_port.specs.Port.{with_row}
-use Rattle.psci_port.specs.Resting.{Goes, IsDue, is_entering}
-use Rattle.psci_port.specs.Rules.{AreTrue, IsPortRun, IsTrue, May}
+use Rattle.psci_port.specs.Resting.{Goes}
+use Rattle.psci_port.proofs.Words.{◌∷◌, ◌≡◌, [], Act, AreTrue, arith, Armed, Arms, blank, cold}
+use Rattle.psci_port.proofs.Words.{Cuts, Delivers, Entering, Enters, false≢true, Finishes}
+use Rattle.psci_port.proofs.Words.{is_entering, IsDue, IsPortRun, List, Locks, May, None, none-some}
+use Rattle.psci_port.proofs.Words.{Opens, Option, Port, Reboots, Record, refl, Resets, Restarts}
+use Rattle.psci_port.proofs.Words.{Rises, Rouses, Sleeps, Some, Stage, Stands, Start, Takes}
+use Rattle.psci_port.proofs.Words.{TakesUp, true, Turns, Unlocks, Wakes, with_row, Writes, ℕ}
 use Rattle.psci_port.proofs.CellRows.{both_come, last_off, life_1, off_by, started_meanwhile}
 use Rattle.psci_port.proofs.Playing.{after, asks, comes, delivers, door, down_3, of_3, off_3}
 use Rattle.psci_port.proofs.Playing.{off_called, on_3, playing}
@@ -28,22 +24,6 @@ RefusedIn p act = May board p act → ⊥
 
 abbrev Refused : List Act → Act → Type 0
 Refused acts act = RefusedIn (after acts) act
-
--- a second holder of the lock, one that is inside a call, a call without the lock, and one of a
--- core that leaves; a core that stands, sleeps, is reset or woken with the lock in hand
-without_the_lock :
-    Refused off_called (Locks 0)
-    × Refused (on_3 ++ (Locks 0 ∷ asks 0 0x84000000 0 0 0 ∷ [])) (Unlocks 0)
-    × Refused on_3 (Takes 0 0 Absent)
-    × Refused off_called (asks 3 0x84000000 0 0 0)
-    × Refused off_called (Stands 3)
-    × Refused (off_3 ++ (delivers 1 ∷ [])) (Stands 3)
-    × Refused (off_called ++ (Arms 3 ∷ [])) (Sleeps 3)
-    × Refused off_called (Resets 3)
-    × Refused (off_called ++ (Arms 3 ∷ [])) (Wakes 3)
-    × Refused off_called (Wakes 3)
-unfolding playing
-without_the_lock = search arith
 
 -- a start is taken up once, at an open door, by a core that was started and is not held; a door is
 -- written before it is opened; what switches a core waits until that stands, and a start for the
@@ -117,10 +97,6 @@ allowed :
     × AreTrue board (TakesUp 0 ∷ Opens 0 ∷ Writes 0 ∷ [])
 unfolding playing
 allowed = search arith
-
-invents_nothing : IsTrue board (after off_3) (Delivers 1 (of_3 kinds.Start 1 [])) → ⊥
-unfolding playing
-invents_nothing = search arith
 
 -- What is due ------------------------------------------------------------------------------------
 

@@ -1,40 +1,145 @@
--- Each run keeps what holds of the cores and of the lock.
-use Rattle.std.proofs.lemmas.Bool.Decides.{nat_tests}
-use Rattle.std.specs.Prelude.{◌&&◌, ◌⊎◌, not}
-use Rattle.std.proofs.Common.{◌<◌, ◌==◌, ◌∙◌, ◌∷◌, ◌≡◌, [], ap, arith, Bool, false, inl, inr, List}
-use Rattle.std.proofs.Common.{None, Option, refl, Some, subst, sym, true, ℕ}
-use Rattle.std.proofs.lemmas.Bool.{eq-eqb, eqb-true, false≢true, ne_eqb}
-use Rattle.std.proofs.lemmas.Option.{none-some}
-use Rattle.psci_board.specs.Board.{BoardValue, cores}
-use Rattle.psci_ctl_spec.specs.Replies.{Begins, change, Effect, effect_of, kick_effect, last_start}
-use Rattle.psci_ctl_spec.specs.Replies.{reply, wake_of}
-use Rattle.psci_ctl_spec.specs.History.{AreValues}
+-- One core at a time is inside the firmware; and each run keeps what holds of its cores.
+use Rattle.psci_ctl_spec.specs.Replies.{effect_of, reply}
 use Rattle.psci_ctl_spec.specs.declared.call.CtlCall.TheVariants as asked
 use Rattle.psci_ctl_spec.specs.declared.kick.Kick.{Kick as Kicked}
 use Rattle.psci_ctl_spec.specs.psci_messages.declared.start.Cause.TheVariants as causes
-use Rattle.psci_ctl_spec.specs.psci_messages.declared.start.Start.{Start}
-use Rattle.psci_world_spec.specs.declared.event.Event.TheVariants.{Call, Deliver, Enter, Reset}
-use Rattle.psci_world_spec.specs.declared.event.Event.TheVariants.{Take, Wake}
-use Rattle.psci_world_spec.specs.declared.said.Record.{Record}
 use Rattle.psci_world_spec.specs.declared.said.Said.TheVariants.{Absent}
-use Rattle.psci_port.specs.Kept.{EachTakesItsLast, IsLocked, TakesItsLast, WordsTell}
-use Rattle.psci_port.specs.Port.{Act, Arms, Calls, cold, Cuts, Delivers, Enters, finished, Finishes}
-use Rattle.psci_port.specs.Port.{going_on, gone_to, lock_by, Locks, Opens, Port, Reboots, Resets}
-use Rattle.psci_port.specs.Port.{Restarts, Rises, rising, Rouses, Row, row_by, Sleeps, stage_at}
-use Rattle.psci_port.specs.Port.{Stands, state, step, stopping, Takes, TakesUp, taking_up, Turns}
-use Rattle.psci_port.specs.Port.{Unlocks, Wakes, woken, words, Writes}
-use Rattle.psci_port.specs.Resting.{is_entering, is_shown, IsAtRest, IsDue, IsQuiet}
-use Rattle.psci_port.specs.Rules.{IsPortRun, May}
-use Rattle.psci_port.specs.Stages.{Armed, AtDoor, Entering, has_stopped, is_inside, is_started}
-use Rattle.psci_port.specs.Stages.{Leaving, may_hold, Normal, roused_at, Stage, Standing, Woken}
-use Rattle.psci_port.proofs.Locks.{apart_kept, arms_kept, begins_kept, commanded_kept}
-use Rattle.psci_port.proofs.Locks.{finished_kept, first_held, IsHeld, IsKept, lock_held}
-use Rattle.psci_port.proofs.Locks.{looks_apart, one_inside, stays_kept, unlock_held}
+use Rattle.psci_port.specs.Port.{lock_by, state, step, whole_by}
+use Rattle.psci_port.specs.Stages.{looks}
+use Rattle.psci_port.specs.Kept.{EachTakesItsLast}
+use Rattle.psci_port.specs.Resting.{IsQuiet}
+use Rattle.psci_port.proofs.Words.{◌&&◌, ◌<◌, ◌==◌, ◌∙◌, ◌∷◌, ◌⊎◌, ◌≡◌, [], Act, ap, AreValues}
+use Rattle.psci_port.proofs.Words.{arith, Armed, Arms, AtDoor, Begins, begins, BoardValue, Bool}
+use Rattle.psci_port.proofs.Words.{Call, Calls, change, cold, commanded, cond, cores, CtlCall, Cuts}
+use Rattle.psci_port.proofs.Words.{Deliver, Delivers, Effect, ended, Enter, Entering, Enters}
+use Rattle.psci_port.proofs.Words.{eq-eqb, eqb-true, Event, false, false≢true, finished, Finishes}
+use Rattle.psci_port.proofs.Words.{first_row, going_on, gone_to, has_stopped, inl, inr, is_entering}
+use Rattle.psci_port.proofs.Words.{is_inside, is_shown, is_started, IsAtRest, IsDue, IsLocked}
+use Rattle.psci_port.proofs.Words.{IsPortRun, kick_effect, last_start, Leaving, List, Locks, May}
+use Rattle.psci_port.proofs.Words.{may_hold, nat_tests, ne_eqb, None, none-some, Normal, not, Opens}
+use Rattle.psci_port.proofs.Words.{Option, Port, Reboots, Record, refl, Reset, Resets, Restarts}
+use Rattle.psci_port.proofs.Words.{Rises, rising, roused_at, Rouses, Row, row_by, Said, Sleeps}
+use Rattle.psci_port.proofs.Words.{Some, Stage, stage_at, stage_said, Standing, Stands, Start}
+use Rattle.psci_port.proofs.Words.{stopping, subst, sym, Take, Takes, TakesItsLast, TakesUp}
+use Rattle.psci_port.proofs.Words.{taking_up, true, Turns, Unlocks, waits, Wake, wake_of, Wakes}
+use Rattle.psci_port.proofs.Words.{with_row, Woken, woken, words, WordsTell, Writes, ℕ}
+use Rattle.psci_port.proofs.Rows.{all_found, AreRows, delivered_starts, delivered_touches}
+use Rattle.psci_port.proofs.Rows.{effect_is, first_is, IsRow, one_is, reset_starts_it, some_core}
+use Rattle.psci_port.proofs.Rows.{starts_core, woken_starts}
 use Rattle.psci_port.proofs.Records.{opens_is, rouses_is, sleeps_is, stops_is, takes_up, turns_is}
 use Rattle.psci_port.proofs.Records.{writes_is}
-use Rattle.psci_port.proofs.Rows.{first_is, IsRow}
-use Rattle.psci_port.proofs.Started.{delivered_starts, delivered_touches, reset_starts_it}
-use Rattle.psci_port.proofs.Started.{woken_starts}
+
+-- the call that a core has begun is its own, and of the stage where it is
+abbrev pub Fits : ℕ → Event → Stage → Type 0
+Fits c (Call d regs) y = (d ≡ c) × (y ≡ Normal)
+Fits c (Enter d) y = (d ≡ c) × ((s : Start) × (y ≡ Entering s))
+Fits c (Take k) y = Unit {0}
+Fits c event y = ⊥
+
+-- What holds of the lock, of the calls that were begun, and of the firmware in its place.
+pub record IsHeld (lock : Option ℕ) (row : ℕ → Row) (intact : Bool) : Type 0 where
+  pub holder : (c : ℕ) → lock ≡ Some c → may_hold (row c).stage ≡ true
+  pub calls : (c : ℕ) (r : Record) → (row c).begun ≡ Some r → lock ≡ Some c
+  pub fits : (c : ℕ) (r : Record) → (row c).begun ≡ Some r → Fits c r.event (row c).stage
+  pub free : lock ≡ None → intact ≡ true
+  pub whole : (c : ℕ) → lock ≡ Some c → (row c).begun ≡ None → intact ≡ true
+
+pub first_begun : (c : ℕ) → (first_row c).begun ≡ None
+first_begun c = grind (arith, nat_tests)
+
+pub first_held : IsHeld None first_row true
+first_held = grind (arith, nat_tests)
+
+module _ (lock : Option ℕ) (row : ℕ → Row) (whole : Bool) (is : IsHeld lock row whole) where
+  -- no two cores have the lock, or are inside a call
+  pub one_holder : (c d : ℕ) → lock ≡ Some c → lock ≡ Some d → c ≡ d
+  one_holder c d e f = some_core c d (sym e ∙ f)
+
+  pub one_inside : (c d : ℕ) (r q : Record) → (row c).begun ≡ Some r → (row d).begun ≡ Some q
+      → c ≡ d
+  one_inside c d r q e f = one_holder c d (is.calls c r e) (is.calls d q f)
+
+  pub not_inside : (c : ℕ) (r : Record) → (lock ≡ Some c → ⊥) → (row c).begun ≡ Some r → ⊥
+  not_inside c r lacks e = lacks (is.calls c r e)
+
+  -- The power controller's acts ------------------------------------------------------------------
+
+  -- where who has the lock is not started, all holds on
+  pub effect_held : (f : Effect) → ((k : ℕ) → starts_core f ≡ Some k → lock ≡ Some k → ⊥)
+      → IsHeld (lock_by f lock) (λ c. row_by c f (row c)) (whole_by f whole)
+  effect_held f free = grind (arith, nat_tests)
+
+  -- The lock -------------------------------------------------------------------------------------
+
+  pub lock_held : (c : ℕ) → lock ≡ None → may_hold (row c).stage ≡ true
+      → IsHeld (Some c) row whole
+  lock_held c none holds = grind (arith, nat_tests)
+
+  pub unlock_held : (c : ℕ) → lock ≡ Some c → (row c).begun ≡ None → IsHeld None row whole
+  unlock_held c at none = grind (arith, nat_tests)
+
+  -- A call of the firmware -----------------------------------------------------------------------
+
+  module _ (c : ℕ) (r : Record) (at : (row c).begun ≡ Some r) where
+    abbrev ended_row : Row
+    ended_row = ended r (row c)
+
+    pub end_held : IsHeld lock (λ x. cond (x == c) ended_row (row x)) true
+    end_held = grind (arith, nat_tests)
+
+-- What each act keeps of the cores and of the lock ------------------------------------------------
+
+pub record IsKept (p : Port) : Type 0 where
+  pub rows : AreRows p.values p.row
+  pub held : IsHeld p.lock p.row p.whole
+
+-- A call of the firmware -------------------------------------------------------------------------
+
+ended_is : (s : ℕ) (l : Option Start) (r : Row) (c : ℕ) (event : Event) (said : Said)
+    → Fits c event r.stage → IsRow s l r
+    → IsRow s l (record r { begun = None; stage = stage_said event said r.stage })
+ended_is s l r c event said fits is = grind (arith, nat_tests)
+
+pub looks_apart : (y : Stage) → looks y ≡ true → may_hold y ≡ true → ⊥
+looks_apart y at holds = grind (arith, nat_tests)
+
+module _ (b : BoardValue) (p : Port) (is : IsKept p) where
+  -- the row of one core changes
+  one_row : (c : ℕ) (r : Row) → IsRow (p.values.starts c) (last_start p.values c) r
+      → AreRows p.values (λ x. cond (x == c) r (p.row x))
+  one_row c r row = λ x. one_is b p.values p.row is.rows c x r (x == c) refl row
+
+  pub begins_kept : (c : ℕ) (r : Record) → p.lock ≡ Some c → Fits c r.event (stage_at p c)
+      → IsKept (begins p c r)
+  begins_kept c r at fits = grind (arith, nat_tests)
+
+  pub finished_kept : (c : ℕ) (r : Record) → (p.row c).begun ≡ Some r
+      → IsKept (finished p c (Some r))
+  finished_kept c r at = record {
+    rows = one_row c (ended r (p.row c))
+        (ended_is _ _ (p.row c) c r.event r.said (is.held.fits c r at) (is.rows c));
+    held = end_held p.lock p.row p.whole is.held c r at;
+  }
+
+  -- a core that has not the lock moves
+  pub apart_kept : (c : ℕ) (r : Row) → r.begun ≡ (p.row c).begun → (p.lock ≡ Some c → ⊥)
+      → IsRow (p.values.starts c) (last_start p.values c) r → IsKept (with_row p c r)
+  apart_kept c r same lacks row = grind (arith, nat_tests)
+
+  -- it stays where it is
+  pub stays_kept : (c : ℕ) (r : Row) → r.begun ≡ (p.row c).begun → r.stage ≡ stage_at p c
+      → IsRow (p.values.starts c) (last_start p.values c) r → IsKept (with_row p c r)
+  stays_kept c r same stays row = grind (arith, nat_tests)
+
+  pub arms_kept : (c : ℕ) → stage_at p c ≡ Leaving → (p.row c).begun ≡ None
+      → IsKept (with_row p c (stopping Armed (p.row c)))
+  arms_kept c at none = grind (arith, nat_tests)
+
+  pub commanded_kept : (event : Event) (call : CtlCall) → waits b p.values (words p) call ≡ false
+      → ((k : ℕ) → starts_core (effect_of b call (reply b p.values call)) ≡ Some k
+      → p.lock ≡ Some k → ⊥)
+      → IsKept (commanded b p event call)
+  commanded_kept event call wait free = grind (arith, nat_tests, effect_is, all_found, effect_held)
 
 first_kept : (b : BoardValue) (before : List (List Record)) → IsKept (cold b before)
 first_kept b before = record { rows = first_is (Some 1); held = first_held }

@@ -1,29 +1,24 @@
 -- Worked examples, clause by clause: which messages are to be served, how much of one is still to
 -- be carried out, what a delivery leaves, and what is outstanding.
-use Rattle.std.proofs.Common.{◌++◌, ◌<◌, ◌∙◌, ◌∷◌, ◌≡◌, ◌≤◌, [], ap, arith, Bool, false, List}
-use Rattle.std.proofs.Common.{map, None, Option, refl, Some, subst, suc, sym, true, zero, ℕ}
-use Rattle.std.specs.Prelude.{◌==◌, ◌&&◌, ◌||◌, if◌then◌else◌, not}
-use Rattle.std.proofs.lemmas.Bool.{eqb-false, false≢true}
-use Rattle.std.proofs.lemmas.Option.{none-some}
+use Rattle.std.proofs.Common.{◌++◌}
+use Rattle.std.specs.Prelude.{if◌then◌else◌}
+use Rattle.std.proofs.lemmas.Bool.{eqb-false}
 use Rattle.psci_board.proofs.Tables.{◌⇒◌, Gives}
-use Rattle.psci_board.specs.Board.{BoardValue, height, up}
 use Rattle.psci_ctl_spec.specs.Replies as changing
-use Rattle.psci_ctl_spec.specs.History.{IsSendable}
-use Rattle.psci_ctl_spec.specs.Replies.{ack_of, reply}
-use Rattle.psci_ctl_spec.specs.Values.{Values}
-use Rattle.psci_ctl_spec.specs.psci_messages.Message.{MessageValue}
-use Rattle.psci_ctl_spec.specs.psci_messages.Slots.{OfCore, OfSystem, Slot, slot_of}
+use Rattle.psci_ctl_spec.specs.Replies.{reply}
+use Rattle.psci_ctl_spec.specs.psci_messages.Slots.{OfSystem, Slot}
 use Rattle.psci_ctl_spec.specs.psci_messages.declared.kind.Kind.TheVariants.{Off, Reset, Start}
-use Rattle.psci_ctl_spec.specs.psci_messages.declared.part.Part.{Part}
 use Rattle.psci_ctl_spec.specs.declared.call.CtlCall.TheVariants as asked
 use Rattle.psci_ctl_spec.specs.declared.delivery.Delivery.TheVariants as deliveries
-use Rattle.psci_ctl_spec.specs.declared.kick.Kick.TheVariants as kicks
 use Rattle.psci_ctl_spec.specs.declared.reply.CtlReply.TheVariants as replies
 use Rattle.psci_world_spec.proofs.Scripts.{board, part, tall}
-use Rattle.psci_world_spec.specs.Legal.{indexed}
-use Rattle.psci_port.specs.Port.{Finishes, Locks, Unlocks}
-use Rattle.psci_port.specs.Served.{AllServed, AreHeard, IsSpent, IsToServe, ends}
-use Rattle.psci_port.specs.Undone.{IsListed, LeavesLess, is_undone, left_of, served, undone}
+use Rattle.psci_port.specs.Served.{AllServed, AreHeard, ends, IsSpent, IsToServe}
+use Rattle.psci_port.specs.Undone.{IsListed, LeavesLess, left_of, served, undone}
+use Rattle.psci_port.proofs.Words.{◌&&◌, ◌<◌, ◌==◌, ◌||◌, ◌∙◌, ◌∷◌, ◌≤◌, ◌≡◌, [], ack_of, ap, arith}
+use Rattle.psci_port.proofs.Words.{BoardValue, Bool, false, false≢true, Finishes, indexed}
+use Rattle.psci_port.proofs.Words.{IsSendable, List, Locks, MessageValue, None, none-some, not}
+use Rattle.psci_port.proofs.Words.{OfCore, Option, Part, refl, slot_of, Some, subst, suc, sym, true}
+use Rattle.psci_port.proofs.Words.{Unlocks, Values, zero, ℕ}
 use Rattle.psci_port.proofs.Playing.{after, at_depths, delivers, down_3, down_of, down_to, Each}
 use Rattle.psci_port.proofs.Playing.{of_3, of_system, off_3, off_called, on, playing, sendable}
 use Rattle.psci_port.proofs.Playing.{standby, takes, whole, whole_tall}
@@ -41,10 +36,6 @@ each_ends : Gives ends_so
     ∷ (of_3 Start 1 [], 0, true) ⇒ true ∷ (of_3 Off 1 [], 1, false) ⇒ true ∷ [])
 each_ends = refl
 
-ends_none : map (ends down_3)
-    (replies.Delivery deliveries.Ignored ∷ replies.Kick kicks.Ignored ∷ []) ≡ false ∷ false ∷ []
-ends_none = refl
-
 -- What a delivery more brings about --------------------------------------------------------------
 
 abbrev out_of_date : List Part
@@ -53,19 +44,6 @@ out_of_date = part 0 3 0 ∷ part 1 3 1 ∷ []
 -- all are powered down but for one cluster, and the system
 abbrev but_for : ℕ → ℕ → ℕ → ℕ
 but_for other level place = if level == 2 || (level == 1 && place == other) then 0 else 3
-
--- the other cluster is on: the system is left
-waits_for_the_other_cluster : IsSpent board (at_depths 1 (but_for 1)) (down_of 0 1 whole)
-unfolding playing changing.after
-waits_for_the_other_cluster = record { depths = by_level; left = refl }
-  where
-    by_level : (level : ℕ) → level ≤ height board
-        → (changing.after board (asked.Deliver (down_of 0 1 whole)) (reply board
-        (at_depths 1 (but_for 1)) (asked.Deliver (down_of 0 1 whole)))
-        (at_depths 1 (but_for 1))).depth level (up board level 0)
-        ≡ but_for 1 level (up board level 0)
-    by_level (suc (suc (suc level))) low = absurd (omega (arith, low))
-    by_level x low = refl
 
 -- a core goes down, its cluster, and its group; all is down; and a message is stale
 brings_about : (IsSpent board (at_depths 1 on) (down_of 0 1 whole) → ⊥)
@@ -125,12 +103,6 @@ core_alone = part 0 2 1 ∷ []
 
 abbrev core_standby : List Part
 core_standby = part 0 1 1 ∷ []
-
--- a part of a core of four that were started once each: of its generation, and not as deep
-undone_parts : map (λ p. is_undone board (at_depths 1 (down_to 0)) 0 p)
-    (part 0 3 1 ∷ part 1 3 2 ∷ part 1 3 1 ∷ part 2 3 4 ∷ []) ≡ false ∷ true ∷ false ∷ true ∷ []
-unfolding playing
-undone_parts = refl
 
 -- what is left of a message before its delivery, and after it
 abbrev left_then : BoardValue × Values × MessageValue → ℕ × ℕ

@@ -1,18 +1,13 @@
 -- What worked examples test of a port is what it keeps: where a test fails, that is not kept.
-use Rattle.std.specs.Prelude.{◌&&◌, ◌+◌, ◌==◌, ◌||◌, is_some, not}
-use Rattle.std.proofs.Common.{◌≡◌, ap, arith, Bool, false, None, Option, refl, Some, subst, sym}
-use Rattle.std.proofs.Common.{true, ℕ}
-use Rattle.std.proofs.lemmas.Bool.{and_from, eq-eqb, eqb-true, lt-ltb}
-use Rattle.std.proofs.lemmas.Bool.Decides.{nat_tests}
-use Rattle.psci_board.specs.Board.{BoardValue, cores, height, up}
-use Rattle.psci_ctl_spec.specs.Replies.{last_start}
-use Rattle.psci_ctl_spec.specs.psci_messages.declared.start.Start.{Start}
-use Rattle.psci_world_spec.specs.declared.said.Record.{Record}
+use Rattle.std.specs.Prelude.{is_some}
 use Rattle.psci_headline.proofs.Tested.{all_in, if_holds}
-use Rattle.psci_port.specs.Kept.{IsLast, IsLocked, KeepsPower, NoneCut, TakesItsLast, WordsTell}
-use Rattle.psci_port.specs.Port.{Port, stage_at, TakesUp, words}
-use Rattle.psci_port.specs.Resting.{is_shown}
-use Rattle.psci_port.specs.Stages.{Entering, has_stopped, Stage}
+use Rattle.psci_port.specs.Kept.{IsLast, KeepsPower}
+use Rattle.psci_port.proofs.Words.{◌&&◌, ◌+◌, ◌==◌, ◌||◌, ◌≡◌, and_from, ap, arith, BoardValue}
+use Rattle.psci_port.proofs.Words.{Bool, cores, Entering, eq-eqb, eqb-true, false, has_stopped}
+use Rattle.psci_port.proofs.Words.{height, is_shown, IsLocked, last_start, lt-ltb, nat_tests, None}
+use Rattle.psci_port.proofs.Words.{NoneCut, not, Option, Port, Record, refl, Some, Stage, stage_at}
+use Rattle.psci_port.proofs.Words.{Start, subst, sym, TakesItsLast, TakesUp, true, up, words}
+use Rattle.psci_port.proofs.Words.{WordsTell, ℕ}
 use Rattle.psci_port.proofs.Playing.{Alone, Awake, ByWord, Clause, Entered, enters_last, Free}
 use Rattle.psci_port.proofs.Playing.{Holder, holds, is_awake, is_last, is_powered, of_holder}
 use Rattle.psci_port.proofs.Playing.{Powered, Stood, takes_last, Whole}

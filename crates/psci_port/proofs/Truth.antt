@@ -1,46 +1,126 @@
 -- A true run of a port, seen through its calls, is a legal run of the world.
-use Rattle.std.proofs.lemmas.Bool.Decides.{nat_tests}
-use Rattle.std.proofs.Common.{◌+◌, ◌<◌, ◌==◌, ◌∙◌, ◌∷◌, ◌≡◌, ◌≤◌, [], ap, arith, Bool, false}
-use Rattle.std.proofs.Common.{length, List, Option, refl, Some, subst, suc, sym, true, zero, ℕ}
-use Rattle.std.proofs.lemmas.Bool.{eqb-false, eqb-true}
-use Rattle.std.proofs.lemmas.Option.{none-some}
-use Rattle.psci_board.specs.Board.{BoardValue, cores, IsBoard}
-use Rattle.psci_ctl_spec.specs.Replies.{after, Effect, effect_of, reply}
-use Rattle.psci_ctl_spec.specs.Values.{CtlExchange, start_of_life, Values}
-use Rattle.psci_ctl_spec.specs.History.{values_of}
-use Rattle.psci_ctl_spec.specs.declared.call.CtlCall.{CtlCall}
+use Rattle.std.proofs.Common.{unwrap_or}
+use Rattle.std.proofs.lemmas.Bool.{eqb-false}
+use Rattle.psci_ctl_spec.specs.Replies.{after, effect_of, reply}
 use Rattle.psci_ctl_spec.specs.declared.call.CtlCall.TheVariants as asked
-use Rattle.psci_ctl_spec.specs.psci_messages.declared.start.Start.{Start}
-use Rattle.psci_world_spec.specs.Legal.{acks, controller_history, controller_values, IsLegalPast}
-use Rattle.psci_world_spec.specs.Legal.{legal, place, said_by}
-use Rattle.psci_world_spec.specs.declared.event.Event.{Event}
-use Rattle.psci_world_spec.specs.declared.event.Event.TheVariants.{Call, Deliver, Enter, Reset}
-use Rattle.psci_world_spec.specs.declared.event.Event.TheVariants.{Take, Wake}
-use Rattle.psci_world_spec.specs.declared.place.Place.TheVariants.{Stopped}
-use Rattle.psci_world_spec.specs.declared.said.Record.{Record}
+use Rattle.psci_world_spec.specs.psci_fw_spec.declared.call.FwCall.TheVariants as calls
+use Rattle.psci_world_spec.specs.Legal.{acks, controller_history, legal, place, place_said}
 use Rattle.psci_world_spec.specs.psci_fw_spec.Effects as later
-use Rattle.psci_world_spec.specs.psci_fw_spec.Effects.{FwExchange}
 use Rattle.psci_world_spec.specs.psci_fw_spec.History as firmware
 use Rattle.psci_headline.specs.Safe.{AlwaysSafe}
-use Rattle.psci_port.specs.Kept.{AreLegal, AreSafe, runs}
-use Rattle.psci_port.specs.Port.{Act, Arms, Calls, cold, commanded, Delivers, Enters, finished}
-use Rattle.psci_port.specs.Port.{Finishes, going_on, gone_to, Opens, Port, Reboots, Resets}
-use Rattle.psci_port.specs.Port.{Restarts, Rises, rising, Rouses, row_by, Sleeps, stage_at, Stands}
-use Rattle.psci_port.specs.Port.{state, step, stopping, Takes, TakesUp, taking_up, told, Turns}
-use Rattle.psci_port.specs.Port.{Wakes, woken, words, Writes}
+use Rattle.psci_port.specs.Port.{state, step, told}
+use Rattle.psci_port.specs.Kept.{AreLegal, AreSafe}
 use Rattle.psci_port.specs.Rebooted.{rebooted}
 use Rattle.psci_port.specs.Resting.{total}
-use Rattle.psci_port.specs.Rules.{AreTrue, IsPortRun, IsTrue, May}
-use Rattle.psci_port.specs.Stages.{Armed, AtDoor, has_stopped, is_started, place_of, roused_at}
-use Rattle.psci_port.specs.Stages.{Stage, stage_in, Standing}
-use Rattle.psci_port.proofs.Locks.{first_begun, IsKept, looks_apart, not_inside}
-use Rattle.psci_port.proofs.Mirrors.{begin_world, end_world, goes_world, IsDue, IsMirror}
-use Rattle.psci_port.proofs.Mirrors.{stays_world}
-use Rattle.psci_port.proofs.Records.{deliver_legal, Moves, moves, Names, reset_legal, roused_place}
-use Rattle.psci_port.proofs.Records.{Spares, told_spares, wake_legal}
+use Rattle.psci_port.specs.Rules.{IsTrue}
+use Rattle.psci_port.proofs.Words.{◌+◌, ◌<◌, ◌==◌, ◌∙◌, ◌∷◌, ◌≤◌, ◌≡◌, [], AckValue, Act, ap}
+use Rattle.psci_port.proofs.Words.{AreTrue, arith, Armed, Arms, asked_firmware, AtDoor, begins}
+use Rattle.psci_port.proofs.Words.{BoardValue, Bool, Call, Calls, cold, commanded, cond}
+use Rattle.psci_port.proofs.Words.{controller_values, cores, CtlCall, CtlExchange, Deliver}
+use Rattle.psci_port.proofs.Words.{Delivers, Effect, ended, Enter, Entering, Enters, eqb-true}
+use Rattle.psci_port.proofs.Words.{Event, false, finished, Finishes, FwExchange, going_on, gone_to}
+use Rattle.psci_port.proofs.Words.{has_stopped, indexed, is_started, IsBoard, IsLegalPast}
+use Rattle.psci_port.proofs.Words.{IsPortRun, length, List, May, nat_tests, None, none-some, Opens}
+use Rattle.psci_port.proofs.Words.{Option, place_of, Port, Reboots, Record, refl, Reset, Resets}
+use Rattle.psci_port.proofs.Words.{Restarts, Rises, rising, roused_at, Rouses, Row, row_by, runs}
+use Rattle.psci_port.proofs.Words.{Said, said_by, Sleeps, Some, Stage, stage_at, stage_in}
+use Rattle.psci_port.proofs.Words.{stage_said, Standing, Stands, Start, start_of_life, Stopped}
+use Rattle.psci_port.proofs.Words.{stopping, subst, suc, sym, Take, Takes, TakesUp, taking_up, true}
+use Rattle.psci_port.proofs.Words.{Turns, Values, values_of, Wake, Wakes, with_row, woken, words}
+use Rattle.psci_port.proofs.Words.{Writes, zero, ℕ}
+use Rattle.psci_port.proofs.Running.{first_begun, Fits, IsKept, looks_apart, not_inside, run_kept}
+use Rattle.psci_port.proofs.Records.{call_legal, deliver_legal, enter_legal, Moves, moves, Names}
+use Rattle.psci_port.proofs.Records.{reset_legal, roused_place, Spares, take_legal, told_spares}
+use Rattle.psci_port.proofs.Records.{wake_legal}
 use Rattle.psci_port.proofs.Rebooting.{are_rebooted, goes_on, IsRebooted, life_values}
 use Rattle.psci_port.proofs.Rebooting.{rebooted_legal}
-use Rattle.psci_port.proofs.Running.{run_kept}
+
+-- what a call is going to say is what the firmware says now
+abbrev pub IsDue : BoardValue → List Record → ℕ → Event → Said → Stage → Type 0
+IsDue b past c (Call d regs) said y =
+    (c < cores b) × (said ≡ asked_firmware b past c (calls.Smc regs))
+IsDue b past c (Enter d) said y = (c < cores b) × ((s : Start) × (y ≡ Entering s)
+    × (said ≡ asked_firmware b past c (calls.Enter s)))
+IsDue b past c (Take k) said y = (a : AckValue) × (indexed (acks past) k ≡ Some a)
+    × (said ≡ asked_firmware b past 0 (calls.Take a))
+IsDue b past c event said y = ⊥
+
+-- where a call was begun
+abbrev DueIn : BoardValue → List Record → ℕ → Option Record → Stage → Type 0
+DueIn b past c None y = Unit {0}
+DueIn b past c (Some r) y = IsDue b past c r.event r.said y
+
+pub record IsMirror (b : BoardValue) (p : Port) : Type 0 where
+  pub values : controller_values b p.past ≡ p.values
+  pub legal : AreLegal b (runs p)
+  pub places : (c : ℕ) → place b p.past c ≡ place_of (stage_at p c)
+  pub due : (c : ℕ) (r : Record) → (p.row c).begun ≡ Some r
+      → IsDue b p.past c r.event r.said (stage_at p c)
+
+-- One core's row ---------------------------------------------------------------------------------
+
+module _ (b : BoardValue) (p : Port) (is : IsMirror b p) where
+  module _ (c : ℕ) (r : Row) (same : place_of (stage_at p c) ≡ place_of r.stage)
+      (due : (q : Record) → r.begun ≡ Some q → IsDue b p.past c q.event q.said r.stage) where
+    pub row_world : IsMirror b (with_row p c r)
+    row_world = grind (arith, nat_tests)
+
+  -- it begins a call
+  pub begin_world : (c : ℕ) (r : Record) → IsDue b p.past c r.event r.said (stage_at p c)
+      → IsMirror b (begins p c r)
+  begin_world c r due = grind (arith, nat_tests)
+
+  -- it stays where it is
+  pub stays_world : (c : ℕ) (r : Row) → r.stage ≡ stage_at p c → r.begun ≡ (p.row c).begun
+      → IsMirror b (with_row p c r)
+  stays_world c r same begun = grind (arith, nat_tests)
+
+  -- it is inside no call, and goes where the world sees no difference
+  pub goes_world : (c : ℕ) (r : Row) → place_of (stage_at p c) ≡ place_of r.stage
+      → ((q : Record) → r.begun ≡ Some q → ⊥) → IsMirror b (with_row p c r)
+  goes_world c r same none = row_world c r same (λ q at. absurd (none q at))
+
+-- A call of the firmware ends --------------------------------------------------------------------
+
+module _ (b : BoardValue) (p : Port) (is : IsMirror b p) (kept : IsKept p) (c : ℕ) (r : Record)
+    (at : (p.row c).begun ≡ Some r) where
+  abbrev Placed : ℕ → Event → Said → Type 0
+  Placed x event said = unwrap_or (place_said x event said) (place b p.past x)
+      ≡ place_of (cond (x == c) (record (p.row c) {
+        begun = None;
+        stage = stage_said event said (stage_at p c);
+      }) (p.row x)).stage
+
+  own_place : (x : ℕ) (event : Event) (said : Said) → Fits c event (stage_at p c)
+      → Placed x event said
+  own_place x event said fits = grind (arith, nat_tests)
+
+  own_legal : (event : Event) (said : Said) → Fits c event (stage_at p c)
+      → IsDue b p.past c event said (stage_at p c) → said ≡ legal b p.past event
+  own_legal event said fits due = grind (arith, nat_tests, call_legal, enter_legal, take_legal)
+
+  own_values : (event : Event) (said : Said) → Fits c event (stage_at p c)
+      → (controller_values b (record { event = event; said = said } ∷ p.past)
+      ≡ controller_values b p.past)
+      × ((x : ℕ) → place b (record { event = event; said = said } ∷ p.past) x
+      ≡ unwrap_or (place_said x event said) (place b p.past x))
+  unfolding controller_history place
+  own_values event said fits = grind (arith, nat_tests)
+
+  none_due : (x : ℕ) (q : Record) (t : Bool) → (x == c) ≡ t
+      → (cond t (ended r (p.row c)) (p.row x)).begun ≡ Some q → ⊥
+  none_due x q t e begun = grind (arith, nat_tests)
+
+  pub end_world : IsMirror b (finished p c (Some r))
+  end_world =
+      let fits : Fits c r.event (stage_at p c) = kept.held.fits c r at in
+      let leaves = own_values r.event r.said fits in
+      record {
+        values = leaves.0 ∙ is.values;
+        legal = ((own_legal r.event r.said fits (is.due c r at), is.legal.0), is.legal.1);
+        places = λ x. leaves.1 x ∙ own_place x r.event r.said fits;
+        due = λ x q e. absurd (none_due x q (x == c) refl e);
+      }
 
 -- The power controller is asked ------------------------------------------------------------------
 

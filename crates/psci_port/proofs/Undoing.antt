@@ -1,43 +1,32 @@
 -- What parts that are applied, and starts, leave to be done of each message.
-use Rattle.std.proofs.lemmas.Bool.Decides.{nat_tests}
-use Rattle.std.specs.Prelude.{◌&&◌, slice_get}
-use Rattle.std.proofs.Common.{◌+◌, ◌<◌, ◌==◌, ◌∙◌, ◌∷◌, ◌≡◌, ◌≤◌, ◌⊎◌, [], ap, arith, Bool, cond}
-use Rattle.std.proofs.Common.{false, inl, inr, length, List, None, not, Option, refl, Some}
-use Rattle.std.proofs.Common.{subst, suc, sym, take, true, zero, ℕ}
-use Rattle.std.proofs.lemmas.Bool.{and_from, and_parts, cases_eq, cond-false, cond-true, eq-eqb}
-use Rattle.std.proofs.lemmas.Bool.{eqb-true, false≢true, ne_eqb}
-use Rattle.std.proofs.lemmas.Option.{none-some}
-use Rattle.psci_board.specs.Board.{BoardValue, cores, domain_of, height, is_on_path, up}
-use Rattle.psci_ctl_spec.specs.Replies.{change, is_this_life, one_more, Starts}
-use Rattle.psci_ctl_spec.specs.History.{IsFront, IsSendable}
-use Rattle.psci_ctl_spec.specs.Values.{is_live, laid}
+use Rattle.std.proofs.lemmas.Bool.{and_parts}
+use Rattle.psci_board.specs.Board.{domain_of}
+use Rattle.psci_ctl_spec.specs.Replies.{one_more}
+use Rattle.psci_ctl_spec.specs.Values.{is_live}
 use Rattle.psci_ctl_spec.specs.Values as controlled
 use Rattle.psci_ctl_spec.specs.declared.call.CtlCall.TheVariants as asked
-use Rattle.psci_ctl_spec.specs.psci_messages.Message.{ArePartsOf, MessageValue}
-use Rattle.psci_ctl_spec.specs.psci_messages.Slots.{OfCore, slot_of}
-use Rattle.psci_ctl_spec.specs.psci_messages.declared.kind.Kind.{Kind}
+use Rattle.psci_ctl_spec.specs.psci_messages.Message.{ArePartsOf}
 use Rattle.psci_ctl_spec.specs.psci_messages.declared.kind.Kind.TheVariants as kinds
 use Rattle.psci_ctl_spec.specs.psci_messages.declared.kind.Kind.TheVariants.{Down, Start}
-use Rattle.psci_ctl_spec.specs.psci_messages.declared.part.Part.{Part}
-use Rattle.psci_ctl_spec.specs.psci_messages.declared.start.Cause.{Cause}
 use Rattle.psci_ctl_spec.specs.psci_messages.psci_state.Cores.{asks}
-use Rattle.psci_ctl_spec.proofs.Depths.{take_get}
-use Rattle.psci_world_spec.specs.Legal.{firmware_values, indexed, sent}
+use Rattle.psci_world_spec.specs.Legal.{sent}
 use Rattle.psci_world_spec.specs.psci_fw_spec.Phases as phases
 use Rattle.psci_world_spec.specs.psci_fw_spec.Values.{Values}
 use Rattle.psci_headline.specs.Settling.{IsLivePart}
-use Rattle.psci_headline.specs.psci_fw_laws.Messages.{IsSound, known_below}
-use Rattle.psci_headline.proofs.Controls.{AreApplied, IsKnown, keeps, part_level}
-use Rattle.psci_headline.proofs.Sending.{at_number}
-use Rattle.psci_headline.proofs.Nexts.{IsPast}
-use Rattle.psci_headline.proofs.Pursuing.{same_sum}
-use Rattle.psci_port.specs.Port.{Delivers, Port, stage_at, words}
-use Rattle.psci_port.specs.Resting.{IsAtRest}
-use Rattle.psci_port.specs.Rules.{May}
-use Rattle.psci_port.specs.Stages.{Normal}
+use Rattle.psci_headline.specs.psci_fw_laws.Messages.{known_below}
+use Rattle.psci_headline.proofs.Controls.{keeps, part_level}
 use Rattle.psci_port.specs.Undone.{is_undone, undone}
-use Rattle.psci_port.specs.Waiting.{switches, waits}
-use Rattle.psci_port.proofs.Mirrors.{IsMirror}
+use Rattle.psci_port.proofs.Words.{◌&&◌, ◌+◌, ◌<◌, ◌==◌, ◌∙◌, ◌∷◌, ◌≤◌, ◌⊎◌, ◌≡◌, [], and_from, ap}
+use Rattle.psci_port.proofs.Words.{AreApplied, arith, at_number, BoardValue, Bool, cases_eq, Cause}
+use Rattle.psci_port.proofs.Words.{change, cond, cond-false, cond-true, cores, Delivers, eq-eqb}
+use Rattle.psci_port.proofs.Words.{eqb-true, false, false≢true, firmware_values, height, indexed}
+use Rattle.psci_port.proofs.Words.{inl, inr, is_on_path, is_this_life, IsAtRest, IsFront, IsKnown}
+use Rattle.psci_port.proofs.Words.{IsPast, IsSendable, IsSound, Kind, laid, length, List, May}
+use Rattle.psci_port.proofs.Words.{MessageValue, nat_tests, ne_eqb, None, none-some, Normal, not}
+use Rattle.psci_port.proofs.Words.{OfCore, Option, Part, Port, refl, same_sum, slice_get, slot_of}
+use Rattle.psci_port.proofs.Words.{Some, stage_at, Starts, subst, suc, switches, sym, take}
+use Rattle.psci_port.proofs.Words.{take_get, true, up, waits, words, zero, ℕ}
+use Rattle.psci_port.proofs.Truth.{IsMirror}
 
 -- Where a port is at rest, each outstanding message may be delivered: its core stands -------------
 

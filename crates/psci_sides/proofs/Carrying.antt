@@ -1,62 +1,47 @@
 -- What orders leave of a machine that carries them out.
-use Rattle.std.proofs.Common.{arith}
-use Rattle.std.proofs.lemmas.Bool.Decides.{nat_tests}
-use Rattle.std.specs.Prelude.{◌&&◌}
-use Rattle.std.proofs.Common.{◌++◌, ◌<◌, ◌==◌, ◌∙◌, ◌∷◌, ◌≡◌, [], ap, Bool, cond, false, length}
-use Rattle.std.proofs.Common.{List, map, None, Option, refl, Some, true, ℕ}
-use Rattle.psci_abi.specs.Calls.{request_of}
-use Rattle.psci_abi.specs.declared.registers.Regs.{Regs}
-use Rattle.psci_board.specs.Board.{BoardValue, is_on_path, IsBoard}
-use Rattle.psci_messages.specs.Message.{AckValue, MessageValue}
-use Rattle.psci_messages.specs.Slots.{Slot}
-use Rattle.psci_messages.specs.declared.part.Part.{Part}
-use Rattle.psci_messages.specs.declared.start.Start.{Start}
-use Rattle.psci_ctl_spec.specs.Replies.{Begins, change, Deepens, Effect, effect_of, Ends}
-use Rattle.psci_ctl_spec.specs.Replies.{Nothing, reply, Starts, with_path_on}
-use Rattle.psci_ctl_spec.specs.History.{AreValues, IsCall, MayFollow}
-use Rattle.psci_ctl_spec.specs.Values.{Values}
-use Rattle.psci_ctl_spec.specs.declared.call.CtlCall.{CtlCall}
+use Rattle.std.proofs.Common.{map}
+use Rattle.psci_ctl_spec.specs.Replies.{effect_of, with_path_on}
+use Rattle.psci_ctl_spec.specs.History.{AreValues, IsCall}
 use Rattle.psci_ctl_spec.specs.declared.call.CtlCall.TheVariants as asked
 use Rattle.psci_ctl_spec.specs.declared.kick.Kick.TheVariants as kicks
-use Rattle.psci_ctl_spec.specs.declared.reply.CtlReply.{CtlReply}
 use Rattle.psci_ctl_spec.specs.declared.reply.CtlReply.TheVariants as replies
-use Rattle.psci_fw_spec.specs.Effects.{after, FwExchange, listed}
+use Rattle.psci_fw_spec.specs.Effects.{after, FwExchange}
 use Rattle.psci_fw_spec.specs.Answer.{answer}
 use Rattle.psci_fw_spec.specs.History.{values_of}
 use Rattle.psci_fw_spec.specs.Changes.{start_of_life}
-use Rattle.psci_fw_spec.specs.Values.{Values as Remembered}
 use Rattle.psci_fw_spec.specs.declared.call.FwCall.TheVariants as calls
-use Rattle.psci_world_spec.specs.Legal.{firmware_values, indexed, IsLegalPast, said_of, sent}
+use Rattle.psci_world_spec.specs.Legal.{IsLegalPast, sent}
 use Rattle.psci_world_spec.specs.declared.event.Event.TheVariants as events
-use Rattle.psci_world_spec.specs.declared.said.Record.{Record}
 use Rattle.psci_headline.specs.Laws.{Agree}
 use Rattle.psci_headline.specs.Complete.{IsToldWhole}
-use Rattle.psci_headline.specs.Settling.{AreAtRest, is_halting}
+use Rattle.psci_headline.specs.Settling.{AreAtRest}
 use Rattle.psci_port.specs.Kept.{NoneCut}
-use Rattle.psci_port.specs.Port.{Act, cold, cut_by, Delivers, Enters, Finishes, lock_by, Reboots}
-use Rattle.psci_port.specs.Port.{Restarts, state, step}
-use Rattle.psci_port.specs.Resting.{IsAtRest, IsDue, left}
+use Rattle.psci_port.specs.Port.{cold, cut_by, Reboots, state, step}
+use Rattle.psci_port.specs.Resting.{IsAtRest}
 use Rattle.psci_port.specs.Rules.{AreTrue, HasLock, IsPortRun, IsTrue, May}
-use Rattle.psci_port.specs.Served.{AllServed, AreHeard}
-use Rattle.psci_port.specs.Undone.{IsListed, LeavesLess}
-use Rattle.psci_port.proofs.Mirrors.{IsMirror}
-use Rattle.psci_fw.specs.Reactions.{FirmwareValue, seen}
-use Rattle.psci_control.specs.Orders.{ack_in, back_orders, orders_of, switch}
+use Rattle.psci_port.specs.Served.{AllServed}
+use Rattle.psci_fw.specs.Reactions.{seen}
+use Rattle.psci_control.specs.Orders.{back_orders, switch}
 use Rattle.psci_control.specs.Powered.{powered, switched}
 use Rattle.psci_control.specs.declared.order.Ending.TheVariants as endings
-use Rattle.psci_control.specs.declared.order.Order.{Order}
 use Rattle.psci_control.specs.declared.order.Order.TheVariants.{Acknowledge, End, Raise, Switch}
 use Rattle.psci_control.proofs.Asked.{orders_power}
-use Rattle.psci_enter.specs.Again.{outstanding_in}
-use Rattle.psci_enter.specs.Orders.{is_suspending}
-use Rattle.psci_enter.specs.Side.{IsAsked, replied, reply_in}
-use Rattle.psci_enter.specs.SideOf.{core_of, is_end, IsFirmwareOf, IsRightly, IsSideOf}
-use Rattle.psci_enter.specs.declared.post.Post.TheVariants.{Entering}
-use Rattle.psci_enter.specs.declared.side.FirmwareSide.{FirmwareSide}
-use Rattle.psci_sides.specs.Machine.{carried, ended, Machine, raised}
-use Rattle.psci_sides.specs.Seen.{IsMachineOf, IsPowerOf, Shows}
+use Rattle.psci_enter.specs.SideOf.{IsRightly}
+use Rattle.psci_sides.specs.Machine.{carried, ended, raised}
+use Rattle.psci_sides.specs.Seen.{IsPowerOf, Shows}
 use Rattle.psci_sides.specs.Steps as steps
-use Rattle.psci_sides.specs.Steps.{Step}
+use Rattle.psci_sides.proofs.Words.{◌&&◌, ◌++◌, ◌<◌, ◌==◌, ◌∙◌, ◌∷◌, ◌≡◌, [], ack_in, AckValue, Act}
+use Rattle.psci_sides.proofs.Words.{ap, AreHeard, arith, Begins, BoardValue, Bool, change, cond}
+use Rattle.psci_sides.proofs.Words.{core_of, CtlCall, CtlReply, Deepens, Delivers, Effect, Ends}
+use Rattle.psci_sides.proofs.Words.{Entering, Enters, false, Finishes, firmware_values}
+use Rattle.psci_sides.proofs.Words.{FirmwareSide, FirmwareValue, indexed, is_end, is_halting}
+use Rattle.psci_sides.proofs.Words.{is_on_path, is_suspending, IsAsked, IsBoard, IsDue}
+use Rattle.psci_sides.proofs.Words.{IsFirmwareOf, IsListed, IsMachineOf, IsMirror, IsSideOf}
+use Rattle.psci_sides.proofs.Words.{LeavesLess, left, length, List, listed, lock_by, Machine}
+use Rattle.psci_sides.proofs.Words.{MayFollow, MessageValue, nat_tests, None, Nothing, Option}
+use Rattle.psci_sides.proofs.Words.{Order, orders_of, outstanding_in, Part, Record, refl, Regs}
+use Rattle.psci_sides.proofs.Words.{Remembered, replied, reply, reply_in, request_of, Restarts}
+use Rattle.psci_sides.proofs.Words.{said_of, Slot, Some, Start, Starts, Step, true, Values, ℕ}
 
 -- an acknowledgement goes back, if one does
 abbrev pub acked : Option AckValue → Machine → Machine

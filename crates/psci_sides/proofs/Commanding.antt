@@ -1,55 +1,37 @@
 -- What is left of a machine and its port, once the power controller was asked and its orders are
 -- carried out.
-use Rattle.std.proofs.Common.{arith}
-use Rattle.std.proofs.lemmas.Bool.Decides.{nat_tests}
 use Rattle.std.specs.Prelude.{slice_set}
-use Rattle.std.proofs.Common.{◌++◌, ◌<◌, ◌==◌, ◌∙◌, ◌∷◌, ◌≡◌, ◌⊎◌, ap, Bool, cond, false}
-use Rattle.std.proofs.Common.{get_or-set_other, get_or-set_same, inl, inr, length, List, None}
-use Rattle.std.proofs.Common.{Option, refl, Some, subst, sym, true, ℕ}
-use Rattle.std.proofs.lemmas.Bool.{cases_eq, eq-eqb, eqb-true, false≢true}
-use Rattle.std.proofs.lemmas.Option.{none-some}
-use Rattle.psci_board.specs.Board.{BoardValue, cores}
-use Rattle.psci_messages.specs.Message.{AckValue, MessageValue}
-use Rattle.psci_messages.specs.declared.start.Cause.{Cause}
-use Rattle.psci_ctl_spec.specs.Replies.{Begins, Deepens, Effect, effect_of, Ends, Nothing, reply}
-use Rattle.psci_ctl_spec.specs.Replies.{Starts}
-use Rattle.psci_ctl_spec.specs.History.{MayFollow}
-use Rattle.psci_ctl_spec.specs.Values.{Values}
-use Rattle.psci_ctl_spec.specs.declared.call.CtlCall.{CtlCall}
+use Rattle.std.proofs.Common.{get_or-set_same}
+use Rattle.psci_ctl_spec.specs.Replies.{effect_of}
 use Rattle.psci_ctl_spec.specs.declared.delivery.Delivery.TheVariants as deliveries
-use Rattle.psci_ctl_spec.specs.declared.reply.CtlReply.{CtlReply}
 use Rattle.psci_ctl_spec.specs.declared.reply.CtlReply.TheVariants as replies
-use Rattle.psci_fw_spec.specs.Effects.{listed}
-use Rattle.psci_fw_spec.specs.declared.call.FwCall.{FwCall}
 use Rattle.psci_fw_spec.specs.declared.call.FwCall.TheVariants as calls
 use Rattle.psci_world_spec.specs.Legal as world
-use Rattle.psci_world_spec.specs.Legal.{acks, indexed, said_by, sent, sent_in}
-use Rattle.psci_world_spec.specs.declared.event.Event.{Event}
-use Rattle.psci_world_spec.specs.declared.said.Record.{Record}
+use Rattle.psci_world_spec.specs.Legal.{acks, sent}
 use Rattle.psci_headline.proofs.Serving.{numbered_new, numbered_old}
-use Rattle.psci_port.specs.Port.{first_row, held_by, moved, Port, Row, row_by, stage_at, started}
-use Rattle.psci_port.specs.Port.{words}
+use Rattle.psci_port.specs.Port.{first_row, held_by, started}
 use Rattle.psci_port.specs.Stages as stages
-use Rattle.psci_port.specs.Stages.{has_stopped, is_armed, is_started, looks, Stage, stage_by}
+use Rattle.psci_port.specs.Stages.{stage_by}
 use Rattle.psci_port.proofs.Records.{held_after}
-use Rattle.psci_port.proofs.Locks.{Fits as FitsCall, IsKept}
-use Rattle.psci_port.proofs.Started.{starts_core}
-use Rattle.psci_fw.specs.Reactions.{FirmwareValue}
-use Rattle.psci_control.specs.ControlSide.{closed, ControlValue, gate_in, gates_after}
-use Rattle.psci_control.specs.ControlSide.{IsControlSide, orders_in, with_gate}
-use Rattle.psci_control.specs.Orders.{ack_in, orders_of}
 use Rattle.psci_control.specs.SideOf as control
-use Rattle.psci_control.specs.declared.gate.Gate.{Gate}
 use Rattle.psci_control.specs.declared.order.Ending.{Ending}
-use Rattle.psci_control.specs.declared.order.Order.{Order}
 use Rattle.psci_control.proofs.Asked.{closed_at}
-use Rattle.psci_enter.specs.SideOf.{Fits, is_end, IsFirmwareOf, IsSideOf}
-use Rattle.psci_enter.specs.declared.post.Post.{Post}
-use Rattle.psci_enter.specs.declared.post.Post.TheVariants.{Armed, Entering}
-use Rattle.psci_enter.specs.declared.side.FirmwareSide.{FirmwareSide}
-use Rattle.psci_sides.specs.Machine.{carried, empty, has_stood, IsIn, Machine, new_side, side_of}
-use Rattle.psci_sides.specs.Machine.{starts_in, Station}
-use Rattle.psci_sides.specs.Seen.{IsCoreOf, IsEventOf, IsLent, IsMachineOf, WasMade, WasSent}
+use Rattle.psci_sides.specs.Machine.{carried, empty, new_side}
+use Rattle.psci_sides.specs.Seen.{WasMade}
+use Rattle.psci_sides.proofs.Words.{◌++◌, ◌<◌, ◌==◌, ◌∙◌, ◌∷◌, ◌⊎◌, ◌≡◌, ack_in, AckValue, ap}
+use Rattle.psci_sides.proofs.Words.{arith, Armed, Begins, BoardValue, Bool, cases_eq, Cause, closed}
+use Rattle.psci_sides.proofs.Words.{cond, ControlValue, cores, CtlCall, CtlReply, Deepens, Effect}
+use Rattle.psci_sides.proofs.Words.{Ends, Entering, eq-eqb, eqb-true, Event, false, false≢true}
+use Rattle.psci_sides.proofs.Words.{FirmwareSide, FirmwareValue, Fits, FitsCall, FwCall, Gate}
+use Rattle.psci_sides.proofs.Words.{gate_in, gates_after, get_or-set_other, has_stood, has_stopped}
+use Rattle.psci_sides.proofs.Words.{indexed, inl, inr, is_armed, is_end, is_started, IsControlSide}
+use Rattle.psci_sides.proofs.Words.{IsCoreOf, IsEventOf, IsFirmwareOf, IsIn, IsKept, IsLent}
+use Rattle.psci_sides.proofs.Words.{IsMachineOf, IsSideOf, length, List, listed, looks, Machine}
+use Rattle.psci_sides.proofs.Words.{MayFollow, MessageValue, moved, nat_tests, None, none-some}
+use Rattle.psci_sides.proofs.Words.{Nothing, Option, Order, orders_in, orders_of, Port, Post}
+use Rattle.psci_sides.proofs.Words.{Record, refl, reply, Row, row_by, said_by, sent_in, side_of}
+use Rattle.psci_sides.proofs.Words.{Some, Stage, stage_at, Starts, starts_core, starts_in, Station}
+use Rattle.psci_sides.proofs.Words.{subst, sym, true, Values, WasSent, with_gate, words, ℕ}
 use Rattle.psci_sides.proofs.Carrying.{carried_by, done, done_acks, done_lock, done_mail}
 use Rattle.psci_sides.proofs.Carrying.{done_power}
 

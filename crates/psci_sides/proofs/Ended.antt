@@ -1,47 +1,27 @@
 -- A call of the firmware ends: what it sends is paid for, of an entry by the entry.
-use Rattle.std.specs.Prelude.{slice_get}
-use Rattle.std.proofs.Common.{◌*◌, ◌++◌, ◌+◌, ◌<◌, ◌==◌, ◌∙◌, ◌∷◌, ◌≡◌, ◌≤◌, ◌⊎◌, [], ap, arith}
-use Rattle.std.proofs.Common.{Bool, cond, false, inl, inr, length, List, None, Option, refl}
-use Rattle.std.proofs.Common.{Some, subst, suc, sym, true, ℕ}
-use Rattle.std.proofs.lemmas.Bool.{eqb-false}
-use Rattle.std.proofs.lemmas.Bool.Decides.{nat_tests}
-use Rattle.std.proofs.lemmas.Option.{none-some}
-use Rattle.psci_abi.specs.declared.registers.Regs.{Regs}
-use Rattle.psci_board.specs.Board.{BoardValue, cores}
-use Rattle.psci_board.specs.declared.draft.Core.{Core}
-use Rattle.psci_messages.specs.Message.{ArePartsOf, MessageValue}
-use Rattle.psci_messages.specs.Slots.{OfCore, OfSystem, Slot, slot_of}
-use Rattle.psci_messages.specs.declared.kind.Kind.{Kind}
+use Rattle.psci_messages.specs.Message.{ArePartsOf}
 use Rattle.psci_messages.specs.declared.kind.Kind.TheVariants as kinds
-use Rattle.psci_messages.specs.declared.part.Part.{Part}
-use Rattle.psci_messages.specs.declared.start.Start.{Start}
-use Rattle.psci_ctl_spec.specs.History.{IsSendable}
-use Rattle.psci_ctl_spec.specs.Replies.{is_this_life}
-use Rattle.psci_ctl_spec.specs.Values.{Values}
-use Rattle.psci_fw_spec.specs.Effects.{listed}
-use Rattle.psci_fw_spec.specs.Values.{Values as Remembered}
-use Rattle.psci_fw_spec.specs.declared.call.FwCall.{FwCall}
 use Rattle.psci_fw_spec.specs.declared.call.FwCall.TheVariants as calls
-use Rattle.psci_fw_spec.specs.declared.reply.FwReply.{FwReply}
 use Rattle.psci_world_spec.specs.Legal.{sent, sent as sent_in}
-use Rattle.psci_port.specs.Port.{Act, Port, state}
+use Rattle.psci_port.specs.Port.{state}
 use Rattle.psci_port.specs.Resting.{total}
-use Rattle.psci_port.specs.Undone.{is_undone, IsListed, left_of, undone}
-use Rattle.psci_port.proofs.Locks.{IsKept}
-use Rattle.psci_port.proofs.Running.{run_kept}
-use Rattle.psci_fw.specs.Reactions.{FirmwareValue, seen as remembers}
-use Rattle.psci_control.specs.ControlSide.{values_of}
-use Rattle.psci_enter.specs.Side.{IsAsked, reply_in}
-use Rattle.psci_sides.specs.Frames.{IsUnderWay}
-use Rattle.psci_sides.specs.Machine.{answered, IsIn, Machine, orders_by, side_by, side_of}
-use Rattle.psci_sides.specs.Seen.{IsLent, IsMachineOf}
-use Rattle.psci_sides.specs.Steps.{after, EndCall, May}
+use Rattle.psci_port.specs.Undone.{is_undone, undone}
+use Rattle.psci_sides.specs.Steps.{after}
+use Rattle.psci_sides.proofs.Words.{◌*◌, ◌++◌, ◌+◌, ◌<◌, ◌==◌, ◌∙◌, ◌∷◌, ◌≤◌, ◌⊎◌, ◌≡◌, [], Act}
+use Rattle.psci_sides.proofs.Words.{answered, ap, arith, BoardValue, Bool, cond, cores, EndCall}
+use Rattle.psci_sides.proofs.Words.{eqb-false, false, FirmwareValue, FwCall, FwReply, inl, inr}
+use Rattle.psci_sides.proofs.Words.{is_this_life, IsAsked, IsIn, IsKept, IsLent, IsListed}
+use Rattle.psci_sides.proofs.Words.{IsMachineOf, IsSendable, IsUnderWay, Kind, left_of, length}
+use Rattle.psci_sides.proofs.Words.{List, listed, Machine, May, MessageValue, nat_tests, None}
+use Rattle.psci_sides.proofs.Words.{none-some, OfCore, Option, orders_by, Part, Port, refl, Regs}
+use Rattle.psci_sides.proofs.Words.{Remembered, remembers, reply_in, run_kept, side_by, side_of}
+use Rattle.psci_sides.proofs.Words.{slice_get, Slot, slot_of, Some, Start, subst, suc, sym, true}
+use Rattle.psci_sides.proofs.Words.{Values, values_of, ℕ}
 use Rattle.psci_sides.proofs.Carrying.{Follows, Given, IsSeen}
-use Rattle.psci_sides.proofs.Quietly.{core_words, IsCalling, kind_rest, Owes, OwesNext, Pays}
-use Rattle.psci_sides.proofs.Quietly.{pays_later, rest, unheard}
-use Rattle.psci_sides.proofs.Visiting.{pays_core, pays_system}
+use Rattle.psci_sides.proofs.Settling.{core_words, IsCalling, kind_rest, on_slot, Owes, OwesNext}
+use Rattle.psci_sides.proofs.Settling.{Pays, pays_later, rest, same_owes, unheard, weight}
+use Rattle.psci_sides.proofs.Visiting.{pays_slot}
 use Rattle.psci_sides.proofs.Acking.{call_out, entry_down, entry_out, IsLeftBy, message_in}
-use Rattle.psci_sides.proofs.Settling.{weight}
 
 -- What is outstanding was sent, and what it may still bring about is bounded ----------------------
 
@@ -107,15 +87,6 @@ module _ (b : BoardValue) (v : Values) (x : MessageValue) (can : IsSendable b x)
   rest_core d slot = of_life (is_this_life v.life x.life) _ _ (core_few x.kind d refl slot)
 
 -- Ended -------------------------------------------------------------------------------------------
-
-core_of : (k : Kind) (core : Core) (d : ℕ) → slot_of k core ≡ OfCore d → core.number ≡ d
-core_of k core d e = grind (arith, nat_tests)
-
-other_core : {i d : ℕ} → OfCore i ≡ OfCore d → i ≡ d
-other_core e = grind arith
-
-no_core : {d : ℕ} → OfSystem ≡ OfCore d → ⊥
-no_core e = cc
 
 same_message : {x y : MessageValue} → Some x ≡ Some y → x ≡ y
 same_message e = grind arith
@@ -214,72 +185,48 @@ module _ (b : BoardValue) (given : Given b) (m : Machine) (acts : List Act)
       nothing_new : ((slot : Slot) → IsOld slot) → OwesNext b l next all 0
       nothing_new old =
           let few_words = words in
-          pays_system b m l acts next all 0 owes owes.system 0 (λ k. absurd (none_calls k))
-          (λ d within. old_pays (OfCore d) (owes.credit d) (old (OfCore d)) (owes.own d within))
-          (old_pays OfSystem owes.system (old OfSystem) owes.whole)
-          (omega (arith, low, few_words))
+          same_owes b m l acts next all 0 owes
+          (λ s on. old_pays s (owes.credit s) (old s) (owes.own s on))
+          (λ k. absurd (none_calls k)) (omega (arith, low, few_words))
 
       -- it stands in its own slot
       module _ (x : MessageValue) (sent : message_in reply ≡ Some x) where
+        abbrev own : Slot
+        own = slot_of x.kind x.core
+
         own_slot : (slot : Slot) (y : MessageValue) → message_in reply ≡ Some y
-            → (remembers g).outstanding slot ≡ Some y → slot_of x.kind x.core ≡ slot
+            → (remembers g).outstanding slot ≡ Some y → own ≡ slot
         own_slot slot y s e = ap (λ (z : MessageValue). slot_of z.kind z.core)
             (same_message (sym sent ∙ s)) ∙ (listed_now slot y e).own
 
-        all_old : IsOld (slot_of x.kind x.core) → (slot : Slot) → IsOld slot
+        all_old : IsOld own → (slot : Slot) → IsOld slot
         all_old old slot = old_slot slot (λ y s e. subst IsOld (own_slot slot y s e) old)
 
-        new_core : (d : ℕ) → slot_of x.kind x.core ≡ OfCore d
-            → (remembers g).outstanding (OfCore d) ≡ Some x → OwesNext b l next all 0
-        new_core d is_own at =
-            let is_listed = listed_now (OfCore d) x at in
-            let within : d < cores b =
-            subst (λ i. i < cores b) (core_of x.kind x.core d is_own) is_listed.board.board.core in
+        new_slot : (remembers g).outstanding own ≡ Some x → OwesNext b l next all 0
+        new_slot at =
             let few_words = words in
-            let much = few x (OfCore d) sent at in
-            pays_core b m l acts next all 0 owes (rest b (values_of m.control) x + 2) 0
-            (λ k. absurd (none_calls k)) d within
-            (new_pays x sent ((remembers g).outstanding (OfCore d)) at)
-            (λ i inside ne. old_pays (OfCore i) (owes.credit i)
-            (old_slot (OfCore i) (λ y s e. absurd (ne (other_core
-            (sym (own_slot (OfCore i) y s e) ∙ is_own))))) (owes.own i inside))
-            (old_pays OfSystem owes.system (old_slot OfSystem (λ y s e. absurd (no_core
-            (sym (own_slot OfSystem y s e) ∙ is_own)))) owes.whole)
+            let much = few x own sent at in
+            pays_slot b m l acts next all 0 owes (rest b (values_of m.control) x + 2) 0
+            (λ k. absurd (none_calls k)) own
+            (on_slot b x.kind x.core (listed_now own x at).board.board.core)
+            (new_pays x sent ((remembers g).outstanding own) at)
+            (λ s within ne. old_pays s (owes.credit s)
+            (old_slot s (λ y t e. absurd (ne (sym (own_slot s y t e))))) (owes.own s within))
             (omega (arith, much, few_words))
 
-        new_system : slot_of x.kind x.core ≡ OfSystem
-            → (remembers g).outstanding OfSystem ≡ Some x → OwesNext b l next all 0
-        new_system is_own at =
-            let few_words = words in
-            let much = few x OfSystem sent at in
-            pays_system b m l acts next all 0 owes (rest b (values_of m.control) x + 2) 0
-            (λ k. absurd (none_calls k))
-            (λ i inside. old_pays (OfCore i) (owes.credit i)
-            (old_slot (OfCore i) (λ y s e. absurd (no_core
-            (sym is_own ∙ own_slot (OfCore i) y s e)))) (owes.own i inside))
-            (new_pays x sent ((remembers g).outstanding OfSystem) at)
-            (omega (arith, much, few_words))
-
-        by_slot : (slot : Slot) → slot_of x.kind x.core ≡ slot → OwesNext b l next all 0
-        by_slot (OfCore d) is_own = elim (out (OfCore d)) [
-          | inl e ↦ nothing_new (all_old (subst IsOld (sym is_own) (inl e)))
+        by_slot : OwesNext b l next all 0
+        by_slot = elim (out own) [
+          | inl e ↦ nothing_new (all_old (inl e))
           | inr other ↦ elim other [
-            | inl e ↦ nothing_new (all_old (subst IsOld (sym is_own) (inr e)))
-            | inr new ↦ new_core d is_own (new.1.1 ∙ sym new.1.0 ∙ sent)
-          ]
-        ]
-        by_slot OfSystem is_own = elim (out OfSystem) [
-          | inl e ↦ nothing_new (all_old (subst IsOld (sym is_own) (inl e)))
-          | inr other ↦ elim other [
-            | inl e ↦ nothing_new (all_old (subst IsOld (sym is_own) (inr e)))
-            | inr new ↦ new_system is_own (new.1.1 ∙ sym new.1.0 ∙ sent)
+            | inl e ↦ nothing_new (all_old (inr e))
+            | inr new ↦ new_slot (new.1.1 ∙ sym new.1.0 ∙ sent)
           ]
         ]
 
       by_message : (o : Option MessageValue) → message_in reply ≡ o → OwesNext b l next all 0
       by_message None e = nothing_new (λ slot. old_slot slot (λ x s at.
           absurd (none-some x (sym e ∙ s))))
-      by_message (Some x) e = by_slot x e (slot_of x.kind x.core) refl
+      by_message (Some x) e = by_slot x e
 
   -- What a call leaves, and what an entry does ---------------------------------------------------
 

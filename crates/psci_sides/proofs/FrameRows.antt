@@ -1,30 +1,22 @@
 -- Worked examples: which steps serve, what breaks each clause of that, and where all is served.
-use Rattle.std.proofs.Common.{◌*◌, ◌++◌, ◌+◌, ◌∙◌, ◌∷◌, ◌≡◌, [], ap, arith, false, inl, inr, List}
-use Rattle.std.proofs.Common.{None, Option, refl, reverse, Some, suc, sym, take, true, zero, ℕ}
+use Rattle.std.proofs.Common.{reverse, take}
 use Rattle.std.specs.Prelude.{slice_index_or}
-use Rattle.std.proofs.lemmas.Bool.{eqb-false, false≢true}
-use Rattle.std.proofs.lemmas.Option.{none-some}
-use Rattle.psci_board.specs.declared.draft.Core.{Core}
 use Rattle.psci_ctl_spec.specs.Replies as changing
-use Rattle.psci_ctl_spec.specs.History.{IsSendable}
-use Rattle.psci_ctl_spec.specs.Replies.{reply}
 use Rattle.psci_fw.specs.Reactions.{seen}
-use Rattle.psci_messages.specs.Message.{MessageValue}
-use Rattle.psci_messages.specs.Slots.{slot_of}
-use Rattle.psci_messages.specs.declared.kind.Kind.{Kind}
 use Rattle.psci_messages.specs.declared.kind.Kind.TheVariants as kinds
-use Rattle.psci_sides.specs.Frames.{EachServes, is_end_of, IsEnding, IsLeft, IsLost, IsOut}
-use Rattle.psci_sides.specs.Frames.{IsServed, IsUnderWay, IsWanted, most_served, most_visit}
-use Rattle.psci_sides.specs.Frames.{Serves, visits}
-use Rattle.psci_board.specs.Board.{cores}
-use Rattle.psci_sides.specs.Machine.{Machine}
-use Rattle.psci_sides.specs.Steps.{BeginCall, Carry, DeliverKept, DeliverMail, GiveLock, Hear}
-use Rattle.psci_sides.specs.Steps.{KeepBack, SendAgain, Stand, Step, TakeAck, TakeLock}
+use Rattle.psci_sides.specs.Frames.{is_end_of, IsLeft, most_served, most_visit, Serves, visits}
+use Rattle.psci_sides.specs.Steps.{Carry, KeepBack}
+use Rattle.psci_ctl_spec.specs.Replies.{reply}
+use Rattle.psci_sides.proofs.Words.{◌*◌, ◌++◌, ◌+◌, ◌∙◌, ◌∷◌, ◌≡◌, [], ap, BeginCall, Core, cores}
+use Rattle.psci_sides.proofs.Words.{DeliverKept, DeliverMail, eqb-false, false, false≢true}
+use Rattle.psci_sides.proofs.Words.{GiveLock, Hear, inl, inr, IsLost, IsOut, IsUnderWay, IsWanted}
+use Rattle.psci_sides.proofs.Words.{Kind, List, Machine, MessageValue, None, none-some, Option}
+use Rattle.psci_sides.proofs.Words.{refl, SendAgain, slot_of, Some, Stand, Step, suc, sym, TakeAck}
+use Rattle.psci_sides.proofs.Words.{TakeLock, true, zero, ℕ}
 use Rattle.psci_sides.proofs.Framed.{nothing_in}
 use Rattle.psci_sides.proofs.Pair.{ack_of, anew, both_run, code, cpu_off, done, goes_off}
-use Rattle.psci_sides.proofs.Pair.{inside_off, off_message, on_message, pair, playing}
-use Rattle.psci_sides.proofs.Pair.{stands_off, start, turns_on}
-use Rattle.psci_sides.proofs.StepRows.{off_sendable}
+use Rattle.psci_sides.proofs.Pair.{inside_off, off_message, on_message, pair, playing, stands_off}
+use Rattle.psci_sides.proofs.Pair.{start, turns_on}
 
 -- Core 0 has asked core 1 on, and the frame is in the mailbox; it is lost; core 1 was started.
 abbrev asked_on : List Step
@@ -39,10 +31,6 @@ keeps_off = inside_off ++ (KeepBack off_message ∷ Carry [] [] ∷ GiveLock 1 �
 
 -- What is under way ------------------------------------------------------------------------------
 
-on_ends : IsEnding (done turns_on) on_message
-unfolding playing
-on_ends = (ack_of on_message, ((0, refl), refl))
-
 under_way : IsOut (done asked_on) on_message × IsUnderWay (done asked_on) on_message
     × IsUnderWay (done keeps_off) off_message
 unfolding playing
@@ -54,16 +42,6 @@ ends_its_own : (is_end_of (ack_of on_message) on_message ≡ true)
     × (is_end_of (record (ack_of off_message) { applied = 0 }) off_message ≡ false)
 ends_its_own = (refl, refl, refl)
 
-on_is_lost : IsLost (done lost_on) on_message
-unfolding playing
-on_is_lost = record {
-  frame = λ u. elim u [
-    | inl at ↦ nothing_in at
-    | inr at ↦ none-some _ at
-  ];
-  ack = λ e. nothing_in e.1.0;
-}
-
 -- not where a frame is under way, nor where its end alone is
 not_lost : (IsLost (done asked_on) on_message → ⊥)
     × (IsLost (done (turns_on ++ (Carry [] (ack_of on_message ∷ []) ∷ []))) on_message → ⊥)
@@ -74,14 +52,6 @@ not_lost = (
 )
 
 -- What is of use ---------------------------------------------------------------------------------
-
-on_is_wanted : IsWanted pair (done asked_on) on_message
-unfolding playing changing.after reply
-on_is_wanted = record {
-  out = refl;
-  unended = λ e. nothing_in e.1.0;
-  brings = λ s. false≢true (sym s.left);
-}
 
 abbrev number : Option MessageValue → ℕ
 number None = 0
@@ -115,50 +85,6 @@ ServesAfter steps x = Serves pair (done steps) x
 
 abbrev ServesNot : List Step → Step → Type 0
 ServesNot steps x = ServesAfter steps x → ⊥
-
-on_sendable : IsSendable pair on_message
-on_sendable = search arith
-
--- a frame is delivered, from the gate once its core was heard; a core of the normal world comes in
--- for an end and for what was lost, takes the one, and sends the other again
-serves : ServesAfter asked_on (DeliverMail on_message (done asked_on).control anew)
-    × ServesAfter keeps_off (Hear 1)
-    × ServesAfter (keeps_off ++ (Hear 1 ∷ []))
-    (DeliverKept 1 off_message (done keeps_off).control anew)
-    × ServesAfter turns_on (TakeLock 0)
-    × ServesAfter lost_on (TakeLock 0)
-    × ServesAfter (turns_on ++ (TakeLock 0 ∷ [])) (TakeAck 0 (ack_of on_message) anew)
-    × ServesAfter (lost_on ++ (TakeLock 0 ∷ [])) (SendAgain 0 1)
-unfolding playing changing.after reply
-serves = (
-  (
-    (0, refl),
-    on_sendable,
-    refl,
-    λ kind armed. absurd (eqb-false 0 4 refl (ap code armed)),
-    on_is_wanted,
-  ),
-  (omega arith, λ e. eqb-false 0 1 refl e),
-  (
-    omega arith,
-    refl,
-    off_sendable,
-    refl,
-    λ kind. absurd (cc),
-    record {
-      out = refl;
-      unended = λ e. nothing_in e.1.0;
-      brings = λ s. false≢true (sym s.left);
-    },
-  ),
-  (omega arith, refl, refl, (on_message, (omega arith, (refl, inl on_ends)))),
-  (omega arith, refl, refl, (on_message, (omega arith, (refl, inr on_is_lost)))),
-  ((omega arith, refl, refl), (0, refl), (on_message, (refl, refl))),
-  (
-    (omega arith, refl, refl),
-    (on_message, (refl, record { frame = on_is_lost.frame; ack = on_is_lost.ack })),
-  ),
-)
 
 -- Steps that do not ------------------------------------------------------------------------------
 
@@ -226,25 +152,3 @@ no_visit = refl
 most_of_two : most_served * cores pair + most_visit * 1 ≡ 1882
 unfolding playing
 most_of_two = refl
-
--- from the call that asks core 1 on the frame is delivered, and core 0 comes in for the end
-serves_in_turn : EachServes pair start (reverse turns_on)
-    (TakeAck 0 (ack_of on_message) anew ∷ TakeLock 0 ∷ [])
-unfolding playing
-serves_in_turn = (
-  inr ((omega arith, refl, refl), (0, refl), (on_message, (refl, refl))),
-  (inr (omega arith, refl, refl, (on_message, (omega arith, (refl, inl on_ends)))), tt),
-)
-
--- Where all is served ----------------------------------------------------------------------------
-
--- no frame of use is under way in one, and what was said does not agree in the other
-not_served : (IsServed pair (done asked_on) → ⊥)
-    × (IsServed pair (record (done goes_off) { depth = λ level place. 3 }) → ⊥)
-unfolding playing
-not_served = (
-  λ is. is.frames on_message (inl (0, refl)) on_is_wanted,
-  λ is. eqb-false 0 3 refl
-      ((is.agree 0 (omega arith) refl refl).depths (record { level = 0; place = 0 })
-      (record { level = omega arith; place = omega arith })),
-)

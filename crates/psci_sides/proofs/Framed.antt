@@ -1,32 +1,20 @@
 -- Machines for worked examples of frames, of any board: each core was started once and runs, and
 -- the firmware waits for one message, of which a frame is in the mailbox.
-use Rattle.std.proofs.Common.{arith}
-use Rattle.std.proofs.lemmas.Bool.Decides.{nat_tests}
-use Rattle.std.proofs.Common.{◌∙◌, ◌∷◌, ◌≡◌, [], Bool, false, inl, inr, List, None, Option, Some}
-use Rattle.std.proofs.Common.{subst, sym, true, ℕ}
 use Rattle.std.specs.Prelude.{if◌then◌else◌, replicate}
-use Rattle.std.proofs.lemmas.Option.{none-some}
-use Rattle.psci_board.specs.Board.{BoardValue}
-use Rattle.psci_board.specs.declared.draft.Core.{Core}
-use Rattle.psci_messages.specs.Message.{AckValue, MessageValue}
-use Rattle.psci_messages.specs.Slots.{message_in, no_messages, slot_of, SlotsValue, with_message}
-use Rattle.psci_messages.specs.declared.kind.Kind.{Kind}
+use Rattle.psci_messages.specs.Slots.{message_in, no_messages, SlotsValue, with_message}
 use Rattle.psci_messages.specs.declared.kind.Kind.TheVariants as kinds
 use Rattle.psci_messages.specs.declared.start.Cause.TheVariants as causes
 use Rattle.psci_state.specs.declared.cores.Activity.TheVariants as activities
-use Rattle.psci_fw.specs.Reactions.{FirmwareValue}
 use Rattle.psci_fw_spec.specs.declared.mode.SuspendMode.TheVariants.{Platform}
-use Rattle.psci_fw_spec.specs.declared.status.Status.TheVariants.{On, Off}
-use Rattle.psci_control.specs.ControlSide.{ControlValue, closed, gate_in, values_of}
-use Rattle.psci_control.specs.declared.gate.Gate.{Gate}
-use Rattle.psci_enter.specs.Again.{outstanding_in}
-use Rattle.psci_enter.specs.declared.post.Post.{Post}
-use Rattle.psci_enter.specs.declared.post.Post.TheVariants.{Running}
-use Rattle.psci_port.specs.Served.{IsSpent}
-use Rattle.psci_sides.specs.Frames.{IsLost, IsOut, IsUnderWay, IsWanted, Serves}
-use Rattle.psci_sides.specs.Kept.{Agree}
-use Rattle.psci_sides.specs.Machine.{IsIn, Machine, cold, empty, new_side}
-use Rattle.psci_sides.specs.Steps.{SendAgain}
+use Rattle.psci_fw_spec.specs.declared.status.Status.TheVariants.{Off, On}
+use Rattle.psci_sides.specs.Frames.{Serves}
+use Rattle.psci_sides.specs.Machine.{empty, new_side}
+use Rattle.psci_sides.proofs.Words.{◌∙◌, ◌∷◌, ◌≡◌, [], AckValue, Agree, arith, BoardValue, Bool}
+use Rattle.psci_sides.proofs.Words.{closed, cold, ControlValue, Core, false, FirmwareValue, Gate}
+use Rattle.psci_sides.proofs.Words.{gate_in, inl, inr, IsIn, IsLost, IsOut, IsSpent, IsUnderWay}
+use Rattle.psci_sides.proofs.Words.{IsWanted, Kind, List, Machine, MessageValue, nat_tests, None}
+use Rattle.psci_sides.proofs.Words.{none-some, Option, outstanding_in, Post, Running, SendAgain}
+use Rattle.psci_sides.proofs.Words.{slot_of, Some, subst, sym, true, values_of, ℕ}
 use Rattle.psci_sides.proofs.Pair.{playing}
 
 -- The two sides ----------------------------------------------------------------------------------

@@ -1,34 +1,27 @@
 -- Worked examples: a run of a machine of two cores, which acts its steps are, and for each clause
 -- of what holds of a machine a state that breaks it.
-use Rattle.std.proofs.Common.{◌∷◌, ◌++◌, ◌≡◌, [], arith, Bool, false, inl, inr, length, List, map}
-use Rattle.std.proofs.Common.{None, Option, refl, Some, sym, true, ℕ}
-use Rattle.std.proofs.lemmas.Bool.{eqb-false}
-use Rattle.std.proofs.lemmas.Option.{none-some}
+use Rattle.std.proofs.Common.{map}
 use Rattle.psci_board.proofs.Tables.{◌⇒◌, Gives}
 use Rattle.psci_messages.specs.declared.start.Cause.TheVariants as causes
-use Rattle.psci_ctl_spec.specs.declared.call.CtlCall.TheVariants as asked
-use Rattle.psci_control.specs.declared.door.DoorOrder.TheVariants.{Open, Write}
 use Rattle.psci_control.specs.declared.order.Ending.TheVariants as endings
-use Rattle.psci_control.specs.declared.order.Order.TheVariants.{End, Raise, Switch}
-use Rattle.psci_control.specs.ControlSide.{waits_in}
-use Rattle.psci_enter.specs.declared.order.Look.TheVariants as look
-use Rattle.psci_enter.specs.declared.post.Post.{Post}
-use Rattle.psci_enter.specs.declared.post.Post.TheVariants.{Waiting, Entering, Leaving, Armed}
-use Rattle.psci_enter.specs.declared.post.Post.TheVariants.{Woken}
-use Rattle.psci_port.specs.Port.{Arms, Cuts, Locks, Rises, Rouses, Sleeps, Stands, TakesUp, Turns}
-use Rattle.psci_port.specs.Port.{Unlocks, Writes}
-use Rattle.psci_sides.specs.Kept.{Agree, AllStill, EachTakesItsLast, executes, hearing, IsStill}
-use Rattle.psci_sides.specs.Kept.{TakesItsLast}
-use Rattle.psci_sides.specs.Machine.{Machine, carried, has_stood}
+use Rattle.psci_control.specs.declared.order.Order.TheVariants.{End, Raise}
+use Rattle.psci_enter.specs.declared.post.Post.TheVariants.{Leaving, Woken}
+use Rattle.psci_port.specs.Port.{Cuts, Rises, Rouses}
+use Rattle.psci_sides.specs.Kept.{AllStill, EachTakesItsLast, IsStill}
+use Rattle.psci_sides.specs.Machine.{carried}
 use Rattle.psci_sides.specs.Seen.{Shows}
-use Rattle.psci_sides.specs.Steps.{ArmCore, BeginEntry, CutPower, GiveLock, Hear, LookAtDoor}
-use Rattle.psci_sides.specs.Steps.{RiseCore, RouseCore, ServeDoor, SleepCore, Stand, Step, TakeLock}
-use Rattle.psci_sides.specs.Steps.{TurnCore, after, came_back, due_at, found_in, may_hold, wake_of}
+use Rattle.psci_sides.specs.Steps.{after, came_back, CutPower}
+use Rattle.psci_sides.proofs.Words.{◌++◌, ◌∷◌, ◌≡◌, [], Agree, arith, ArmCore, Armed, Arms}
+use Rattle.psci_sides.proofs.Words.{BeginEntry, Bool, Entering, eqb-false, executes, false}
+use Rattle.psci_sides.proofs.Words.{GiveLock, Hear, inl, inr, length, List, Locks, LookAtDoor}
+use Rattle.psci_sides.proofs.Words.{Machine, None, none-some, Option, Post, refl, RiseCore}
+use Rattle.psci_sides.proofs.Words.{RouseCore, ServeDoor, SleepCore, Sleeps, Some, Stand, Stands}
+use Rattle.psci_sides.proofs.Words.{Step, sym, TakeLock, TakesItsLast, TakesUp, true, TurnCore}
+use Rattle.psci_sides.proofs.Words.{Turns, Unlocks, Waiting, Writes, ℕ}
 use Rattle.psci_sides.proofs.Pair.{anew, arms_off, boot, both_run, done, first_start, goes_off}
-use Rattle.psci_sides.proofs.Pair.{inside_a_call, inside_off, off_again, off_message, on_start}
-use Rattle.psci_sides.proofs.Pair.{open_on, pair, playing, rises_off, roused_off, sleeps_off}
-use Rattle.psci_sides.proofs.Pair.{stands_off, start, started_again, started_armed, turns_off}
-use Rattle.psci_sides.proofs.Pair.{turns_on}
+use Rattle.psci_sides.proofs.Pair.{inside_a_call, inside_off, off_message, on_start, open_on, pair}
+use Rattle.psci_sides.proofs.Pair.{playing, rises_off, roused_off, sleeps_off, stands_off, start}
+use Rattle.psci_sides.proofs.Pair.{started_again, started_armed, turns_off, turns_on}
 use Rattle.psci_sides.proofs.Tested.{Awake, failing, Heard, Holder, Inside, Powered}
 
 -- The run ----------------------------------------------------------------------------------------
@@ -78,24 +71,6 @@ each_shown : Gives shown
 unfolding playing
 each_shown = refl
 
--- its Down waits until it stands and was heard, and while it runs whatever is heard; and so do that
--- of its new start, and its wake-up, once it was started meanwhile
-its_down_waits : map (λ (m : Machine). waits_in m.control (asked.Deliver off_message))
-    (done inside_off ∷ done stands_off ∷ done (inside_off ++ (ArmCore 1 ∷ [])) ∷ done arms_off
-    ∷ hearing (done both_run) 1 ∷ []) ≡ true ∷ false ∷ true ∷ false ∷ true ∷ []
-unfolding playing
-its_down_waits = refl
-
-waits_though_heard : map (λ (m : Machine). (waits_in m.control (wake_of m 1)))
-    (done locked_armed ∷ done (locked_armed ++ (Hear 1 ∷ [])) ∷ []) ≡ true ∷ true ∷ []
-unfolding playing
-waits_though_heard = refl
-
-its_new_down_waits :
-    waits_in (hearing (done locked_armed) 1).control (asked.Deliver off_again) ≡ true
-unfolding playing
-its_new_down_waits = refl
-
 -- it executes from its start until it stands, or sleeps, and again once it is roused
 executes_when : map (λ steps. executes (done steps) 1)
     (boot ∷ turns_on ∷ both_run ∷ inside_off ∷ stands_off ∷ goes_off ∷ arms_off ∷ sleeps_off
@@ -104,30 +79,6 @@ executes_when : map (λ steps. executes (done steps) 1)
 unfolding playing
 executes_when = refl
 
--- whether it stands in its last start; and an armed core may have the lock, though it was started
-stands_armed : map {B = Bool × Bool} (λ steps.
-    (has_stood (done steps) 1, may_hold ((done steps).side 1).post))
-    (arms_off ∷ sleeps_off ∷ roused_off ∷ rises_off ∷ started_armed ∷ [])
-    ≡ (true, true) ∷ (true, false) ∷ (true, true) ∷ (false, true) ∷ (false, true) ∷ []
-unfolding playing
-stands_armed = refl
-
--- its start is written before its door is opened for it; then nothing is due
-door_in_turn : map (λ steps. due_at (done steps) 1)
-    (turns_on ∷ (turns_on ++ (ServeDoor 1 ∷ [])) ∷ both_run ∷ turns_off ∷ [])
-    ≡ Some (Write on_start) ∷ Some (Open 1) ∷ None
-    ∷ Some (Write (record { life = 1; number = 2; cause = causes.Wake })) ∷ []
-unfolding playing
-door_in_turn = refl
-
--- and it takes that up once it is open, and once
-looks_once : map (λ steps. found_in (done steps) 1 false)
-    ((turns_on ++ (ServeDoor 1 ∷ [])) ∷ open_on ∷ stands_off
-    ∷ (turns_off ++ (ServeDoor 1 ∷ ServeDoor 1 ∷ [])) ∷ at_its_door ∷ [])
-    ≡ look.Rest ∷ look.Enter ∷ look.Rest ∷ look.Enter ∷ look.Enter ∷ []
-unfolding playing
-looks_once = refl
-
 -- a core that comes out of a reset of its own is held until its door is open
 held_then : map (λ (m : Machine). (m.station 1).held)
     (came_back 1 (done both_run) ∷ after pair (came_back 1 (done turns_on)) (ServeDoor 1)
@@ -135,18 +86,6 @@ held_then : map (λ (m : Machine). (m.station 1).held)
     ≡ true ∷ true ∷ false ∷ []
 unfolding playing
 held_then = refl
-
--- Orders are carried out: a Down, a start, the end of a life
-carried_out : map {B = ℕ × ℕ} (λ (m : Machine). (m.depth 0 1, m.depth 1 0))
-    (carried pair anew (Switch (record { number = 1 }) 0 3 ∷ []) (done both_run)
-    ∷ carried pair anew (Switch (record { number = 1 }) 0 3 ∷ Switch (record { number = 1 }) 1 2
-    ∷ Raise (record { number = 1 }) ∷ []) (done both_run)
-    ∷ carried pair anew (Switch (record { number = 0 }) 1 1 ∷ End endings.Restart ∷ [])
-    (done both_run)
-    ∷ carried pair anew (Switch (record { number = 0 }) 1 1 ∷ End endings.Off ∷ [])
-    (done both_run) ∷ []) ≡ (3, 0) ∷ (0, 0) ∷ (3, 0) ∷ (0, 1) ∷ []
-unfolding playing
-carried_out = refl
 
 -- what an end leaves of the power, the lock, and core 1
 life_ends : map {B = Bool × Option ℕ × Post × ℕ} (λ (m : Machine).

@@ -1,20 +1,12 @@
 -- Worked examples: a firmware that was made anew, and a side that keeps no message back.
-use Rattle.std.proofs.Common.{◌==◌, ◌∙◌, ◌∷◌, ◌≡◌, [], ap, arith, false, None, refl, Some, suc}
-use Rattle.std.proofs.Common.{sym, zero, ℕ}
-use Rattle.std.proofs.lemmas.Bool.{cond-false, ne_eqb}
-use Rattle.std.proofs.lemmas.Bool.Decides.{nat_tests}
-use Rattle.std.proofs.lemmas.Option.{none-some}
-use Rattle.psci_board.specs.Board.{cores}
-use Rattle.psci_messages.specs.Message.{MessageValue}
-use Rattle.psci_ctl_spec.specs.History.{IsSendable}
 use Rattle.psci_ctl.specs.Seen.{ControllerValue}
-use Rattle.psci_control.specs.ControlSide.{IsControlSide, gate_in}
-use Rattle.psci_control.specs.declared.gate.Gate.{Gate}
 use Rattle.psci_fw_spec.specs.Changes.{start_of_life}
 use Rattle.psci_fw_spec.specs.Values.{Values}
 use Rattle.psci_fw.specs.Reactions.{seen}
-use Rattle.psci_messages.specs.Slots.{OfCore, OfSystem, Slot}
-use Rattle.psci_sides.specs.Steps.{IsMadeAnew}
+use Rattle.psci_sides.proofs.Words.{◌==◌, ◌∙◌, ◌∷◌, ◌≡◌, [], ap, arith, cond-false, cores, false}
+use Rattle.psci_sides.proofs.Words.{Gate, gate_in, IsControlSide, IsMadeAnew, IsSendable}
+use Rattle.psci_sides.proofs.Words.{MessageValue, nat_tests, ne_eqb, None, none-some, OfCore}
+use Rattle.psci_sides.proofs.Words.{OfSystem, refl, Slot, Some, suc, sym, zero, ℕ}
 use Rattle.psci_sides.proofs.Pair.{anew, on_message, pair, playing}
 
 abbrev is : Values

@@ -1,32 +1,25 @@
 -- A machine of two cores for worked examples, and a run of it: core 0 boots and turns core 1 on,
 -- which enters, and goes off. What methods leave is written out.
-use Rattle.std.proofs.Common.{◌++◌, ◌∷◌, [], false, List, None, Option, reverse, Some, ℕ}
-use Rattle.psci_abi.specs.declared.registers.Regs.{Regs}
-use Rattle.psci_board.specs.Board.{BoardValue}
+use Rattle.std.proofs.Common.{reverse}
 use Rattle.psci_fw_spec.specs.psci_abi.declared.registers.Format.TheVariants.{Original}
-use Rattle.psci_messages.specs.Message.{AckValue, MessageValue}
 use Rattle.psci_messages.specs.declared.kind.Kind.TheVariants as kinds
-use Rattle.psci_messages.specs.declared.start.Cause.{Cause}
 use Rattle.psci_messages.specs.declared.start.Cause.TheVariants as causes
-use Rattle.psci_messages.specs.declared.start.Start.{Start}
 use Rattle.psci_state.specs.declared.cores.Activity.{Activity}
 use Rattle.psci_state.specs.declared.cores.Activity.TheVariants as activities
-use Rattle.psci_fw.specs.Reactions.{FirmwareValue}
 use Rattle.psci_fw_spec.specs.declared.mode.SuspendMode.TheVariants.{Platform}
-use Rattle.psci_fw_spec.specs.declared.status.Status.TheVariants.{On, Off, Pending}
+use Rattle.psci_fw_spec.specs.declared.status.Status.TheVariants.{Off, On, Pending}
 use Rattle.psci_fw_state.specs.Seen.{values_in}
 use Rattle.psci_fw_state.specs.declared.row.CoreRow.{CoreRow}
-use Rattle.psci_control.specs.declared.gate.Gate.{Gate}
-use Rattle.psci_control.specs.ControlSide.{ControlValue, closed}
-use Rattle.psci_enter.specs.declared.post.Post.{Post}
-use Rattle.psci_enter.specs.declared.post.Post.TheVariants.{Armed, Entering, Leaving, Running}
-use Rattle.psci_enter.specs.declared.post.Post.TheVariants.{Waiting, Woken}
+use Rattle.psci_enter.specs.declared.post.Post.TheVariants.{Leaving, Woken}
 use Rattle.psci_world_spec.proofs.Scripts.{computing}
-use Rattle.psci_sides.specs.Machine.{Machine, carried, cold}
-use Rattle.psci_sides.specs.Steps.{after, ArmCore, BeginCall, BeginEntry, CutPower, DeliverMail}
-use Rattle.psci_sides.specs.Steps.{EndCall, GiveLock, Hear, KeepBack, LookAtDoor, machine}
-use Rattle.psci_sides.specs.Steps.{RiseCore, RouseCore, ServeDoor, SleepCore, Stand, Step}
-use Rattle.psci_sides.specs.Steps.{TakeAck, TakeLock, TurnCore}
+use Rattle.psci_sides.specs.Machine.{carried}
+use Rattle.psci_sides.specs.Steps.{after, CutPower, KeepBack, machine}
+use Rattle.psci_sides.proofs.Words.{◌++◌, ◌∷◌, [], AckValue, ArmCore, Armed, BeginCall, BeginEntry}
+use Rattle.psci_sides.proofs.Words.{BoardValue, Cause, closed, cold, ControlValue, DeliverMail}
+use Rattle.psci_sides.proofs.Words.{EndCall, Entering, false, FirmwareValue, Gate, GiveLock, Hear}
+use Rattle.psci_sides.proofs.Words.{List, LookAtDoor, Machine, MessageValue, None, Option, Post}
+use Rattle.psci_sides.proofs.Words.{Regs, RiseCore, RouseCore, Running, ServeDoor, SleepCore, Some}
+use Rattle.psci_sides.proofs.Words.{Stand, Start, Step, TakeAck, TakeLock, TurnCore, Waiting, ℕ}
 
 -- one cluster of two cores
 abbrev pub pair : BoardValue

@@ -1,21 +1,14 @@
 -- Worked examples: which steps a machine takes by itself, how many, and where it is at rest.
-use Rattle.std.proofs.Common.{◌*◌, ◌∷◌, ◌++◌, ◌≡◌, ◌<◌, [], ap, arith, false, inl, inr, List, refl}
-use Rattle.std.proofs.Common.{reverse, Some, suc, sym, zero, ℕ}
-use Rattle.std.proofs.lemmas.Bool.{eqb-false}
-use Rattle.std.proofs.lemmas.Option.{none-some}
-use Rattle.psci_board.specs.Board.{cores}
-use Rattle.psci_fw_spec.specs.declared.call.FwCall.TheVariants as calls
-use Rattle.psci_control.specs.declared.door.DoorOrder.TheVariants.{Write}
-use Rattle.psci_enter.specs.declared.post.Post.TheVariants.{Running}
 use Rattle.psci_sides.specs.Kept.{IsStill}
 use Rattle.psci_sides.specs.Machine.{closed_door}
-use Rattle.psci_sides.specs.Resting.{EachGoes, Goes, IsAtRest, most_steps}
-use Rattle.psci_sides.specs.Steps.{ArmCore, BeginCall, BeginEntry, EndCall, GiveLock, LookAtDoor}
-use Rattle.psci_sides.specs.Steps.{RouseCore, ServeDoor, SleepCore, Stand, Step, TakeLock, TurnCore}
-use Rattle.psci_sides.proofs.Pair.{anew, arms_off, both_run, code, cpu_off, done, goes_off}
-use Rattle.psci_sides.proofs.Pair.{inside_a_call, inside_off, looked_on, off_message, on_start}
-use Rattle.psci_sides.proofs.Pair.{open_on, pair, playing, rises_off, roused_off, start}
-use Rattle.psci_sides.proofs.Pair.{started_armed, turns_on}
+use Rattle.psci_sides.specs.Resting.{most_steps}
+use Rattle.psci_sides.proofs.Words.{◌*◌, ◌++◌, ◌<◌, ◌∷◌, ◌≡◌, [], ap, arith, ArmCore, BeginCall}
+use Rattle.psci_sides.proofs.Words.{cores, eqb-false, false, GiveLock, Goes, inl, inr, IsAtRest}
+use Rattle.psci_sides.proofs.Words.{List, LookAtDoor, none-some, refl, RouseCore, Running}
+use Rattle.psci_sides.proofs.Words.{ServeDoor, SleepCore, Some, Stand, Step, suc, sym, TakeLock}
+use Rattle.psci_sides.proofs.Words.{TurnCore, zero, ℕ}
+use Rattle.psci_sides.proofs.Pair.{both_run, code, cpu_off, done, goes_off, looked_on, off_message}
+use Rattle.psci_sides.proofs.Pair.{pair, playing, started_armed}
 
 -- Steps that go ----------------------------------------------------------------------------------
 
@@ -25,37 +18,6 @@ GoesOn steps x = Goes pair (done steps) x
 
 abbrev Stays : List Step → Step → Type 0
 Stays steps x = GoesOn steps x → ⊥
-
--- core 1 goes from its door to the normal world, and from its call to its stop, in either way
-its_way : GoesOn turns_on (ServeDoor 1)
-    × GoesOn open_on (LookAtDoor 1 false)
-    × GoesOn looked_on (TakeLock 1)
-    × GoesOn (looked_on ++ (TakeLock 1 ∷ [])) (BeginEntry 1 on_start)
-    × GoesOn (looked_on ++ (TakeLock 1 ∷ BeginEntry 1 on_start ∷ [])) (EndCall 1 anew)
-    × GoesOn inside_a_call (EndCall 1 anew)
-    × GoesOn inside_off (GiveLock 1)
-    × GoesOn (inside_off ++ (GiveLock 1 ∷ [])) (Stand 1)
-    × GoesOn inside_off (ArmCore 1)
-    × GoesOn (arms_off ++ (GiveLock 1 ∷ [])) (SleepCore 1)
-    × GoesOn (rises_off ++ (GiveLock 1 ∷ [])) (TurnCore 1)
-    × GoesOn (started_armed ++ (TakeLock 1 ∷ [])) (GiveLock 1)
-    × GoesOn started_armed (SleepCore 1)
-unfolding playing
-its_way = (
-  (omega arith, (Write on_start, refl)),
-  (omega arith, refl, refl, refl, λ e. none-some 1 e),
-  (omega arith, refl, refl),
-  ((omega arith, refl, refl), refl),
-  (omega arith, (calls.Enter on_start, refl)),
-  (omega arith, (calls.Smc cpu_off, refl)),
-  ((omega arith, refl, refl), refl),
-  (omega arith, refl, λ e. none-some 1 e),
-  (omega arith, refl),
-  (omega arith, refl, λ e. none-some 1 e),
-  (omega arith, refl, λ e. none-some 1 e),
-  ((omega arith, refl, refl), refl),
-  (omega arith, refl, λ e. none-some 1 e),
-)
 
 -- Steps that do not ------------------------------------------------------------------------------
 
@@ -77,19 +39,6 @@ unfolding playing
 stays = search arith
 
 -- At rest ----------------------------------------------------------------------------------------
-
--- a core has the lock, is armed, or has a start to take up
-not_at_rest : (IsAtRest pair (done inside_off) → ⊥) × (IsAtRest pair (done roused_off) → ⊥)
-    × (IsAtRest pair (done turns_on) → ⊥)
-unfolding playing
-not_at_rest = (
-  λ is. none-some 1 (sym is.free),
-  λ is. elim (is.each 1 (omega arith)).post [
-    | inl e ↦ eqb-false 4 2 refl (ap code e)
-    | inr e ↦ eqb-false 4 0 refl (ap code e)
-  ],
-  λ is. eqb-false 0 1 refl (is.each 1 (omega arith)).opened,
-)
 
 -- both cores are in the normal world
 runs_on : (c : ℕ) → c < cores pair → ((done both_run).side c).post ≡ Running
@@ -132,11 +81,6 @@ breaks_rest = (
   λ is. eqb-false 0 1 refl (is.each 1 (omega arith)).opened,
   λ is. eqb-false 0 2 refl (ap code (is.messages off_message (omega arith) refl)),
 )
-
--- two steps bring core 1 from the end of its call to its stop
-two_steps : EachGoes pair start (reverse inside_off) (Stand 1 ∷ GiveLock 1 ∷ [])
-unfolding playing
-two_steps = ((omega arith, refl, λ e. none-some 1 e), (((omega arith, refl, refl), refl), tt))
 
 -- and no run of such steps of this board is longer than this
 most_of_two : most_steps * cores pair ≡ 42

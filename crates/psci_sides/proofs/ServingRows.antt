@@ -1,21 +1,16 @@
 -- Worked examples, clause by clause: which frame is of use, of which message nothing is under way,
 -- which steps serve, and where all is served; of each message on its board.
-use Rattle.std.proofs.Common.{◌≡◌, ◌<◌, ap, arith, inl, inr, refl, sym, true}
-use Rattle.std.proofs.lemmas.Bool.{eqb-false, false≢true}
-use Rattle.std.proofs.lemmas.Option.{none-some}
-use Rattle.psci_board.specs.Board.{BoardValue, cores}
 use Rattle.psci_ctl_spec.specs.Replies as changing
-use Rattle.psci_ctl_spec.specs.Replies.{reply}
-use Rattle.psci_messages.specs.Message.{MessageValue}
 use Rattle.psci_messages.specs.declared.kind.Kind.TheVariants.{Off}
 use Rattle.psci_world_spec.proofs.Scripts.{board, tall}
-use Rattle.psci_control.specs.ControlSide.{values_of}
-use Rattle.psci_port.proofs.Playing.{down_of, Each, EachGoing, of_system, sendable, standby}
-use Rattle.psci_port.proofs.Playing.{whole, whole_tall}
-use Rattle.psci_port.specs.Served.{IsSpent}
-use Rattle.psci_enter.specs.declared.post.Post.TheVariants.{Waiting}
-use Rattle.psci_sides.specs.Frames.{IsLost, IsOut, IsServed, IsWanted, Serves, is_end_of}
-use Rattle.psci_sides.specs.Steps.{DeliverKept, DeliverMail, Hear, SendAgain, TakeAck, TakeLock}
+use Rattle.psci_port.proofs.Playing.{down_of, Each, EachGoing, of_system, sendable, standby, whole}
+use Rattle.psci_port.proofs.Playing.{whole_tall}
+use Rattle.psci_sides.specs.Frames.{is_end_of, IsServed, Serves}
+use Rattle.psci_ctl_spec.specs.Replies.{reply}
+use Rattle.psci_sides.proofs.Words.{◌<◌, ◌≡◌, ap, arith, BoardValue, cores, DeliverKept}
+use Rattle.psci_sides.proofs.Words.{DeliverMail, eqb-false, false≢true, Hear, inl, inr, IsLost}
+use Rattle.psci_sides.proofs.Words.{IsOut, IsSpent, IsWanted, MessageValue, none-some, refl}
+use Rattle.psci_sides.proofs.Words.{SendAgain, sym, TakeAck, TakeLock, true, values_of, Waiting}
 use Rattle.psci_sides.proofs.Framed.{agree, at_post, end_of, ended, framed, framed_and_ended}
 use Rattle.psci_sides.proofs.Framed.{holding, is_lost, is_wanted, kept, lifeless, lost, none_out}
 use Rattle.psci_sides.proofs.Framed.{nothing_in, sent_once, slot_number, taken, unheard}

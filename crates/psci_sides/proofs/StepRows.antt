@@ -1,32 +1,23 @@
 -- Worked examples: what each step waits for, by a state that has no more, and for each clause by a
 -- state that breaks it.
-use Rattle.std.proofs.Common.{◌++◌, ◌∷◌, ◌≡◌, [], ap, arith, false, List, None, refl, subst, suc}
-use Rattle.std.proofs.Common.{sym, zero, ℕ}
-use Rattle.std.proofs.lemmas.Bool.{eqb-false, false≢true}
-use Rattle.std.proofs.lemmas.Option.{none-some, same_Some}
-use Rattle.psci_messages.specs.Message.{MessageValue}
 use Rattle.psci_ctl_spec.specs.declared.call.CtlCall.TheVariants as asked
-use Rattle.psci_ctl_spec.specs.History.{IsSendable}
-use Rattle.psci_fw.specs.Reactions.{FirmwareValue}
-use Rattle.psci_fw_spec.specs.declared.call.FwCall.TheVariants as calls
-use Rattle.psci_fw_spec.specs.Effects as leaves
 use Rattle.psci_fw_spec.specs.Values.{Values}
-use Rattle.psci_control.specs.ControlSide.{ControlValue}
 use Rattle.psci_control.specs.declared.door.DoorOrder.TheVariants.{Write}
-use Rattle.psci_enter.specs.Side.{IsAsked}
 use Rattle.psci_enter.specs.declared.order.Look.{Look}
 use Rattle.psci_enter.specs.declared.order.Look.TheVariants as look
-use Rattle.psci_sides.specs.Machine.{Machine}
-use Rattle.psci_sides.specs.Steps.{ArmCore, ArmedLacks, BeginCall, BeginEntry, came_back, Carry}
-use Rattle.psci_sides.specs.Steps.{CutPower, DeliverKept, DeliverMail, EndCall, GiveLock, IsDue}
-use Rattle.psci_sides.specs.Steps.{IsMadeAnew, KeepBack, LookAtDoor, May, MayReset, MayRise}
-use Rattle.psci_sides.specs.Steps.{NoneArmed, RiseCore, RouseCore, SendAgain, ServeDoor, SleepCore}
-use Rattle.psci_sides.specs.Steps.{Stand, Step, TakeAck, TakeLock, TurnCore, wake_of, WakeUp}
+use Rattle.psci_sides.specs.Steps.{ArmedLacks, came_back, Carry, CutPower, IsDue, KeepBack}
+use Rattle.psci_sides.specs.Steps.{MayReset, MayRise, NoneArmed}
+use Rattle.psci_sides.proofs.Words.{◌++◌, ◌∷◌, [], ap, arith, ArmCore, BeginCall, BeginEntry}
+use Rattle.psci_sides.proofs.Words.{ControlValue, DeliverMail, eqb-false, false, false≢true}
+use Rattle.psci_sides.proofs.Words.{FirmwareValue, GiveLock, IsMadeAnew, IsSendable, List}
+use Rattle.psci_sides.proofs.Words.{LookAtDoor, May, MessageValue, none-some, refl, RiseCore}
+use Rattle.psci_sides.proofs.Words.{RouseCore, SendAgain, ServeDoor, SleepCore, Stand, Step, suc}
+use Rattle.psci_sides.proofs.Words.{sym, TakeLock, TurnCore, zero, ℕ}
 use Rattle.psci_sides.proofs.Framed.{nothing_in}
-use Rattle.psci_sides.proofs.Pair.{ack_of, anew, arms_off, boot, booted, both_run, code, cpu_off}
-use Rattle.psci_sides.proofs.Pair.{done, goes_off, inside_a_call, inside_off, looked_on}
-use Rattle.psci_sides.proofs.Pair.{off_message, on_message, on_start, pair, playing, rises_off}
-use Rattle.psci_sides.proofs.Pair.{roused_off, stands_off, started_armed, turns_on}
+use Rattle.psci_sides.proofs.Pair.{ack_of, arms_off, boot, booted, both_run, code, cpu_off, done}
+use Rattle.psci_sides.proofs.Pair.{goes_off, inside_a_call, inside_off, looked_on, off_message}
+use Rattle.psci_sides.proofs.Pair.{on_start, pair, playing, rises_off, roused_off, stands_off}
+use Rattle.psci_sides.proofs.Pair.{started_armed, turns_on}
 
 -- What a step waits for --------------------------------------------------------------------------
 
@@ -159,65 +150,13 @@ of_what_is_there = (
   λ may. nothing_in (may.1 (ack_of off_message) (0, refl)),
 )
 
--- its wake-up waits until its word is heard
-rises_unheard : (m : Machine) → m ≡ done (inside_off ++ (ArmCore 1 ∷ []))
-    → IsDue (wake_of m 1) m.control → ⊥
-unfolding playing
-rises_unheard m at due = false≢true (sym (subst (λ n. IsDue (wake_of n 1) n.control) at due))
-
--- a call leaves the firmware that it was lent, and ends where it began
-leaves_another : Refused inside_a_call (EndCall 1 anew)
-unfolding playing leaves.after
-leaves_another may =
-    let asked = subst (λ call. IsAsked 1 call called_firmware anew)
-    (sym (same_Some (calls.Smc cpu_off) may.1.0 may.1.1.0)) may.1.1.1 in
-    eqb-false 0 1 refl (ap (λ (v : Values). v.life) asked.values)
-  where
-    called_firmware : FirmwareValue
-    called_firmware = (done inside_a_call).firmware
-
 kept_firmware : IsMadeAnew pair booted → ⊥
 unfolding playing
 kept_firmware is = eqb-false 1 0 refl (ap (λ (v : Values). v.life) is.values)
 
 -- Whatever a method leaves -----------------------------------------------------------------------
 
-ends_no_call : (g : FirmwareValue) → Refused both_run (EndCall 1 g)
-unfolding playing
-ends_no_call g may = none-some may.1.0 may.1.1.0
-
-takes_what_none_made : (g : FirmwareValue)
-    → Refused (boot ++ (TakeLock 0 ∷ [])) (TakeAck 0 (ack_of off_message) g)
-unfolding playing
-takes_what_none_made g may = nothing_in may.1
-
 delivers_what_none_sent : (x : MessageValue) (t : ControlValue) (f : FirmwareValue)
     → Refused boot (DeliverMail x t f)
 unfolding playing
 delivers_what_none_sent x t f may = nothing_in may.0
-
-delivers_what_none_kept : (t : ControlValue) (f : FirmwareValue)
-    → Refused boot (DeliverKept 1 off_message t f)
-unfolding playing
-delivers_what_none_kept t f may = none-some off_message may.1
-
--- who is armed with the lock in hand is started by none but itself, nor woken, though the system is
--- off
-no_start_with_the_lock : (t : ControlValue) (f : FirmwareValue)
-    → Refused arms_off (DeliverMail on_message t f)
-unfolding playing
-no_start_with_the_lock t f may = may.4 refl refl refl
-
-no_kept_start_with_the_lock : (t : ControlValue) (f : FirmwareValue)
-    → Refused (arms_off ++ (KeepBack on_message ∷ [])) (DeliverKept 1 on_message t f)
-unfolding playing
-no_kept_start_with_the_lock t f may = may.5 refl refl refl
-
-abbrev off_now : Machine
-off_now = let m = done arms_off in record m {
-  control = record m.control { controller = record m.control.controller { life = None } };
-}
-
-no_wake_up_with_the_lock : (t : ControlValue) → May pair off_now (WakeUp 1 t) → ⊥
-unfolding playing
-no_wake_up_with_the_lock t may = may.2 refl refl

@@ -1,23 +1,17 @@
 -- What is tested of a machine is what holds of it: where a test fails, that does not hold.
-use Rattle.std.specs.Prelude.{◌&&◌, ◌==◌, ◌||◌, if◌then◌else◌, is_some, nat_lt, not}
-use Rattle.std.proofs.Common.{◌∷◌, ◌≡◌, [], arith, Bool, inl, inr, List, None, Option, refl, Some}
-use Rattle.std.proofs.Common.{subst, sym, true, ℕ}
-use Rattle.std.proofs.lemmas.Bool.{and_from, eq-eqb, lt-ltb, ltb-true, not_from_false, or_left}
-use Rattle.std.proofs.lemmas.Bool.{or_right}
-use Rattle.psci_board.specs.Board.{BoardValue, cores}
-use Rattle.psci_ctl_spec.specs.Replies.{last_start}
-use Rattle.psci_fw_spec.specs.declared.call.FwCall.{FwCall}
+use Rattle.std.specs.Prelude.{◌||◌, if◌then◌else◌, is_some}
+use Rattle.std.proofs.lemmas.Bool.{not_from_false, or_left, or_right}
 use Rattle.psci_headline.specs.Test.{at_each_core}
 use Rattle.psci_headline.proofs.Tested.{all_in, if_holds}
-use Rattle.psci_port.specs.Resting.{has_lock}
 use Rattle.psci_port.proofs.Playing.{is_awake, is_last, is_powered, of_holder}
 use Rattle.psci_port.proofs.Tested.{awake_so, last_so, of_any, powered_so}
-use Rattle.psci_control.specs.ControlSide.{values_of, waits_in}
-use Rattle.psci_enter.specs.Side.{may_look}
 use Rattle.psci_enter.specs.declared.order.Look.TheVariants as look
-use Rattle.psci_sides.specs.Kept.{executes, hearing, IsSound, TakesItsLast}
-use Rattle.psci_sides.specs.Machine.{has_stood, Machine, starts_in}
-use Rattle.psci_sides.specs.Steps.{found_in, LookAtDoor, may_hold, wake_of}
+use Rattle.psci_sides.proofs.Words.{◌&&◌, ◌==◌, ◌∷◌, ◌≡◌, [], and_from, arith, BoardValue, Bool}
+use Rattle.psci_sides.proofs.Words.{cores, eq-eqb, executes, found_in, FwCall, has_lock, has_stood}
+use Rattle.psci_sides.proofs.Words.{hearing, inl, inr, IsSound, last_start, List, LookAtDoor}
+use Rattle.psci_sides.proofs.Words.{lt-ltb, ltb-true, Machine, may_hold, may_look, nat_lt, None}
+use Rattle.psci_sides.proofs.Words.{not, Option, refl, Some, starts_in, subst, sym, TakesItsLast}
+use Rattle.psci_sides.proofs.Words.{true, values_of, waits_in, wake_of, ℕ}
 
 -- What is tested ---------------------------------------------------------------------------------
 

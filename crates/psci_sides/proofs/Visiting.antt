@@ -1,57 +1,42 @@
 -- Words are heard, and a core that comes in takes what has ended, and sends again what was lost.
-use Rattle.std.proofs.lemmas.Bool.Decides.{nat_tests}
-use Rattle.std.specs.Prelude.{nat_lt}
-use Rattle.std.proofs.Common.{◌*◌, ◌++◌, ◌+◌, ◌<◌, ◌==◌, ◌∙◌, ◌∷◌, ◌≡◌, ◌≤◌, ap, arith, Bool}
-use Rattle.std.proofs.Common.{cond, false, get_or-set_other, inl, inr, List, None, Option, refl}
-use Rattle.std.proofs.Common.{Some, subst, suc, sym, true, zero, ℕ}
-use Rattle.std.proofs.lemmas.Bool.{eq-eqb, eqb-false, eqb-true, ltb-true, ne_eqb}
-use Rattle.std.proofs.lemmas.Option.{none-some}
-use Rattle.psci_board.specs.Board.{BoardValue, cores}
-use Rattle.psci_messages.specs.Message.{MessageValue}
-use Rattle.psci_messages.specs.Slots.{OfCore, OfSystem}
-use Rattle.psci_fw_spec.specs.Effects.{listed}
-use Rattle.psci_world_spec.specs.declared.said.Record.{Record}
-use Rattle.psci_port.specs.Port.{Act, Locks, Port, stage_at, state, step}
-use Rattle.psci_port.specs.Resting.{core_left, left, total}
+use Rattle.psci_port.specs.Port.{state, step}
+use Rattle.psci_port.specs.Resting.{total}
 use Rattle.psci_port.specs.Stages as stages
-use Rattle.psci_port.proofs.Locks.{IsKept}
-use Rattle.psci_port.proofs.Running.{run_kept}
-use Rattle.psci_port.proofs.Powering.{locks_other, locks_own}
-use Rattle.psci_port.proofs.Truth.{same_le, total_le, total_less}
-use Rattle.psci_fw.specs.Reactions.{seen as remembers}
-use Rattle.psci_control.specs.ControlSide.{closed, gate_in, heard, telling, values_of, with_gate}
-use Rattle.psci_control.specs.declared.gate.Gate.{Gate}
-use Rattle.psci_enter.specs.Again.{outstanding_in}
-use Rattle.psci_enter.specs.SideOf.{Fits}
-use Rattle.psci_enter.specs.declared.post.Post.TheVariants.{Running}
-use Rattle.psci_sides.specs.Frames.{IsLost, IsUnderWay}
-use Rattle.psci_sides.specs.Machine.{Machine}
-use Rattle.psci_sides.specs.Seen.{IsMachineOf}
+use Rattle.psci_port.proofs.Power.{locks_other, locks_own}
+use Rattle.psci_port.proofs.Truth.{total_less}
+use Rattle.psci_sides.proofs.Words.{◌*◌, ◌++◌, ◌+◌, ◌<◌, ◌==◌, ◌∙◌, ◌∷◌, ◌≤◌, ◌≡◌, Act, ap, arith}
+use Rattle.psci_sides.proofs.Words.{BoardValue, Bool, closed, cond, core_left, cores, eq-eqb}
+use Rattle.psci_sides.proofs.Words.{eqb-false, eqb-true, false, false≢true, Fits, Gate, gate_in}
+use Rattle.psci_sides.proofs.Words.{get_or-set_other, heard, inl, inr, IsKept, IsLost, IsMachineOf}
+use Rattle.psci_sides.proofs.Words.{IsUnderWay, left, List, listed, Locks, ltb-true, Machine}
+use Rattle.psci_sides.proofs.Words.{MessageValue, nat_lt, nat_tests, ne_eqb, None, none-some}
+use Rattle.psci_sides.proofs.Words.{OfCore, OfSystem, Option, outstanding_in, Port, Record, refl}
+use Rattle.psci_sides.proofs.Words.{remembers, run_kept, Running, same_le, Slot, Some, stage_at}
+use Rattle.psci_sides.proofs.Words.{subst, suc, sym, telling, total_le, true, values_of, with_gate}
+use Rattle.psci_sides.proofs.Words.{zero, ℕ}
 use Rattle.psci_sides.proofs.Commanding.{there}
 use Rattle.psci_sides.proofs.Carrying.{Given, IsSeen}
-use Rattle.psci_sides.proofs.Quietly.{gate_field, IsCalling, Owes, OwesNext, Pays, pays_later}
-use Rattle.psci_sides.proofs.Quietly.{quiet_owes, rest, total_more, unheard}
-use Rattle.psci_sides.proofs.Settling.{weight}
+use Rattle.psci_sides.proofs.Settling.{all_slots, gate_field, HasSlot, IsCalling, lock_quiet, Owes}
+use Rattle.psci_sides.proofs.Settling.{OwesNext, Pays, pays_later, quiet_owes, rest, same_owes}
+use Rattle.psci_sides.proofs.Settling.{total_more, unheard, weight}
+use Rattle.psci_messages.specs.Slots.{is_slot}
 
 -- What is set aside for one slot changes ----------------------------------------------------------
 
--- one number in place of another
-abbrev pub replaced : (ℕ → ℕ) → ℕ → ℕ → ℕ → ℕ
-replaced f c n d = cond (d == c) n (f d)
-
 pub total_replaced : (f : ℕ → ℕ) (c n k : ℕ) → c < k
-    → total (replaced f c n) k + f c ≤ total f k + n
+    → total (λ d. cond (d == c) n (f d)) k + f c ≤ total f k + n
 unfolding total
 total_replaced f c n zero has = absurd (omega (arith, has))
 total_replaced f c n (suc k) has =
     by (k == c) refl (λ low. total_replaced f c n k low)
   where
-    by : (t : Bool) → (k == c) ≡ t → (c < k → total (replaced f c n) k + f c ≤ total f k + n)
-        → cond t n (f k) + total (replaced f c n) k + f c ≤ f k + total f k + n
+    by : (t : Bool) → (k == c) ≡ t
+        → (c < k → total (λ d. cond (d == c) n (f d)) k + f c ≤ total f k + n)
+        → cond t n (f k) + total (λ d. cond (d == c) n (f d)) k + f c ≤ f k + total f k + n
     by true e more =
         let at : k ≡ c = eqb-true k c e in
         let here : f k ≡ f c = ap f at in
-        let others = total_le f (replaced f c n) k (λ x low. same x (x == c) refl
+        let others = total_le f (λ d. cond (d == c) n (f d)) k (λ x low. same x (x == c) refl
         (λ is. omega (arith, low, at, is))) in
         omega (arith, here, others)
       where
@@ -64,63 +49,67 @@ total_replaced f c n (suc k) has =
         let others = more low in
         omega (arith, others)
 
+same_slot : (s t : Slot) → is_slot s t ≡ true → s ≡ t
+same_slot (OfCore c) (OfCore d) e = ap OfCore (eqb-true c d e)
+same_slot OfSystem OfSystem e = refl
+same_slot (OfCore c) OfSystem e = absurd (false≢true e)
+same_slot OfSystem (OfCore d) e = absurd (false≢true e)
+
+other_slot : (s t : Slot) → is_slot s t ≡ false → s ≡ t → ⊥
+other_slot s t e at = false≢true (sym e ∙ ap (is_slot s) (sym at) ∙ own s)
+  where
+    own : (s : Slot) → is_slot s s ≡ true
+    own (OfCore c) = eq-eqb c c refl
+    own OfSystem = refl
+
+-- one number in place of another
+abbrev replaced : (Slot → ℕ) → Slot → ℕ → Slot → ℕ
+replaced f slot n s = cond (is_slot s slot) n (f s)
+
+slots_replaced : (b : BoardValue) (f : Slot → ℕ) (s : Slot) (n : ℕ) → HasSlot b s
+    → all_slots (replaced f s n) (cores b) + f s ≤ all_slots f (cores b) + n
+slots_replaced b f (OfCore c) n on =
+    more (total (λ d. cond (d == c) n (f (OfCore d))) (cores b))
+    (total (λ d. f (OfCore d)) (cores b)) (f OfSystem) (f (OfCore c))
+    (total_replaced (λ d. f (OfCore d)) c n (cores b) on)
+  where
+    more : (i j x y : ℕ) → i + y ≤ j + n → i + x + y ≤ j + x + n
+    more i j x y low = omega (arith, low)
+slots_replaced b f OfSystem n on = same (total (λ d. f (OfCore d)) (cores b)) (f OfSystem)
+  where
+    same : (i x : ℕ) → i + n + x ≤ i + x + n
+    same i x = omega arith
+
 module _ (b : BoardValue) (m l : Machine) (acts next : List Act) (all more : ℕ)
     (owes : Owes b m acts all) (n call : ℕ) (calls : IsCalling b l → 232 * cores b + 2 ≤ call)
   where
-    -- that of a core
-    pub pays_core : (c : ℕ) → c < cores b
-        → Pays b l ((remembers l.firmware).outstanding (OfCore c)) n
-        → ((d : ℕ) → d < cores b → (d ≡ c → ⊥)
-        → Pays b l ((remembers l.firmware).outstanding (OfCore d)) (owes.credit d))
-        → Pays b l ((remembers l.firmware).outstanding OfSystem) owes.system
+    pub pays_slot : (slot : Slot) → HasSlot b slot
+        → Pays b l ((remembers l.firmware).outstanding slot) n
+        → ((s : Slot) → HasSlot b s → (s ≡ slot → ⊥)
+        → Pays b l ((remembers l.firmware).outstanding s) (owes.credit s))
         → 11 * weight b next + n + call + total (unheard l) (cores b) + 1
-        ≤ 11 * weight b acts + owes.credit c + owes.call + total (unheard m) (cores b) + more
+        ≤ 11 * weight b acts + owes.credit slot + owes.call + total (unheard m) (cores b) + more
         → OwesNext b l next all more
-    pays_core c has own others whole low =
+    pays_slot slot on own others low =
         let sum = owes.sum in
-        let new = total_replaced owes.credit c n (cores b) has in record {
-          less = 11 * weight b next + (total (replaced owes.credit c n) (cores b)
-              + (owes.system + (call + total (unheard l) (cores b))));
+        let new = slots_replaced b owes.credit slot n on in record {
+          less = 11 * weight b next + (all_slots (replaced owes.credit slot n) (cores b)
+              + (call + total (unheard l) (cores b)));
           low = omega (arith, sum, new, low);
           owes = record {
-            credit = replaced owes.credit c n;
-            system = owes.system;
+            credit = replaced owes.credit slot n;
             call = call;
-            own = λ d within. by d (d == c) refl within;
-            whole = whole;
+            own = λ s within. by s (is_slot s slot) refl within;
             calls = calls;
             sum = omega arith;
           };
         }
       where
-        by : (d : ℕ) (t : Bool) → (d == c) ≡ t → d < cores b
-            → Pays b l ((remembers l.firmware).outstanding (OfCore d)) (cond t n (owes.credit d))
-        by d true e within = subst (λ i. Pays b l ((remembers l.firmware).outstanding (OfCore i)) n)
-            (sym (eqb-true d c e)) own
-        by d false e within = others d within (eqb-false d c e)
-
-    -- that of the system
-    pub pays_system : ((d : ℕ) → d < cores b
-        → Pays b l ((remembers l.firmware).outstanding (OfCore d)) (owes.credit d))
-        → Pays b l ((remembers l.firmware).outstanding OfSystem) n
-        → 11 * weight b next + n + call + total (unheard l) (cores b) + 1
-        ≤ 11 * weight b acts + owes.system + owes.call + total (unheard m) (cores b) + more
-        → OwesNext b l next all more
-    pays_system others whole low =
-        let sum = owes.sum in record {
-          less = 11 * weight b next + (total owes.credit (cores b)
-              + (n + (call + total (unheard l) (cores b))));
-          low = omega (arith, sum, low);
-          owes = record {
-            credit = owes.credit;
-            system = n;
-            call = call;
-            own = others;
-            whole = whole;
-            calls = calls;
-            sum = omega arith;
-          };
-        }
+        by : (s : Slot) (t : Bool) → is_slot s slot ≡ t → HasSlot b s
+            → Pays b l ((remembers l.firmware).outstanding s) (cond t n (owes.credit s))
+        by s true e within = subst (λ i. Pays b l ((remembers l.firmware).outstanding i) n)
+            (sym (same_slot s slot e)) own
+        by s false e within = others s within (other_slot s slot e)
 
 -- Visiting ----------------------------------------------------------------------------------------
 
@@ -167,25 +156,12 @@ module _ (b : BoardValue) (given : Given b) (m : Machine) (acts : List Act)
 
   pub hear_next : (c : ℕ) → c < cores b → (heard m.control c ≡ (m.station c).word → ⊥)
       → OwesNext b (hearing c) acts all 0
-  hear_next c has ne = record {
-    less = 11 * weight b acts + (total owes.credit (cores b) + (owes.system + (owes.call
-        + total (unheard (hearing c)) (cores b))));
-    low =
-        let sum = owes.sum in
-        let less = hears_less c has ne in
-        omega (arith, sum, less);
-    owes = record {
-      credit = owes.credit;
-      system = owes.system;
-      call = owes.call;
-      own = λ d within. pays_later b m (hearing c) _ (owes.credit d) (λ x e i. i)
-          (λ x e u. under x u) (λ x e. omega arith) (owes.own d within);
-      whole = pays_later b m (hearing c) _ owes.system (λ x e i. i) (λ x e u. under x u)
-          (λ x e. omega arith) owes.whole;
-      calls = λ calling. owes.calls calling;
-      sum = omega arith;
-    };
-  }
+  hear_next c has ne =
+      let less = hears_less c has ne in
+      same_owes b m (hearing c) acts acts all 0 owes
+      (λ s on. pays_later b m (hearing c) ((remembers m.firmware).outstanding s) (owes.credit s)
+      (λ x e i. i) (λ x e u. under x u) (λ x e. omega arith) (owes.own s on))
+      (λ calling. calling) (omega (arith, less))
     where
       under : (x : MessageValue) → IsUnderWay m x → IsUnderWay (hearing c) x
       under x u = elim u [
@@ -219,30 +195,25 @@ module _ (b : BoardValue) (given : Given b) (m : Machine) (acts : List Act)
     now_pays o e = subst (λ o. Pays b (sending (Some x)) o (rest b (values_of m.control) x + 2))
         (sym e) (inr (inl (inl (0, refl), omega arith)))
 
+    again_slot : (slot : Slot) → HasSlot b slot
+        → (remembers m.firmware).outstanding slot ≡ Some x
+        → OwesNext b (sending (Some x)) acts all 0
+    again_slot slot on out =
+        let much = lost_pays (owes.credit slot)
+        (subst (λ o. Pays b m o (owes.credit slot)) out (owes.own slot on)) in
+        pays_slot b m (sending (Some x)) acts acts all 0 owes
+        (rest b (values_of m.control) x + 2) owes.call (λ calling. owes.calls calling) slot on
+        (now_pays ((remembers m.firmware).outstanding slot) out)
+        (λ s within ne. still_pays ((remembers m.firmware).outstanding s) (owes.credit s)
+        (owes.own s within)) (omega (arith, much))
+
     again_core : (c : ℕ) → c < cores b → (remembers m.firmware).outstanding (OfCore c) ≡ Some x
         → OwesNext b (sending (Some x)) acts all 0
-    again_core c has out =
-        let much = lost_pays (owes.credit c)
-        (subst (λ o. Pays b m o (owes.credit c)) out (owes.own c has)) in
-        pays_core b m (sending (Some x)) acts acts all 0 owes
-        (rest b (values_of m.control) x + 2) owes.call (λ calling. owes.calls calling) c has
-        (now_pays ((remembers m.firmware).outstanding (OfCore c)) out)
-        (λ d within ne. still_pays ((remembers m.firmware).outstanding (OfCore d)) (owes.credit d)
-        (owes.own d within))
-        (still_pays ((remembers m.firmware).outstanding OfSystem) owes.system owes.whole)
-        (omega (arith, much))
+    again_core c = again_slot (OfCore c)
 
     again_system : (remembers m.firmware).outstanding OfSystem ≡ Some x
         → OwesNext b (sending (Some x)) acts all 0
-    again_system out =
-        let much = lost_pays owes.system
-        (subst (λ o. Pays b m o owes.system) out owes.whole) in
-        pays_system b m (sending (Some x)) acts acts all 0 owes
-        (rest b (values_of m.control) x + 2) owes.call (λ calling. owes.calls calling)
-        (λ d within. still_pays ((remembers m.firmware).outstanding (OfCore d)) (owes.credit d)
-        (owes.own d within))
-        (now_pays ((remembers m.firmware).outstanding OfSystem) out)
-        (omega (arith, much))
+    again_system = again_slot OfSystem tt
 
     again_by : (number : ℕ) (s t : Bool) → nat_lt number (cores b) ≡ s → (number == cores b) ≡ t
         → cond s ((remembers m.firmware).outstanding (OfCore number))
@@ -279,11 +250,5 @@ module _ (b : BoardValue) (given : Given b) (m : Machine) (acts : List Act)
   unfolding state step
   visit_next c has free runs =
       let more = more_left c has free runs in
-      quiet_owes b m (taking c) (record {
-        firmware = refl;
-        values = refl;
-        mail = refl;
-        acks = refl;
-        kept = λ d. refl;
-        calls = λ e. e;
-      }) acts (Locks c ∷ acts) all 0 12 owes (omega arith) (omega (arith, more))
+      quiet_owes b m (taking c) (lock_quiet b m (Some c)) acts (Locks c ∷ acts) all 0 12 owes
+      (omega arith) (omega (arith, more))

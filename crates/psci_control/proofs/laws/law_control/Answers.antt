@@ -2,9 +2,9 @@
 use Rattle.psci_ctl_spec.specs.Replies.{effect_of, reply}
 use Rattle.psci_port.specs.Port.{state}
 use Rattle.psci_port.proofs.Running.{run_kept}
-use Rattle.psci_control.proofs.Apart.{apart_side}
-use Rattle.psci_control.proofs.Commanded.{delivers_side, first_side, hears_side, opens_side}
-use Rattle.psci_control.proofs.Commanded.{resets_side, rises_side, wakes_side, writes_side}
+use Rattle.psci_control.proofs.Commanded.{apart_side, delivers_side, first_side, hears_side}
+use Rattle.psci_control.proofs.Commanded.{opens_side, resets_side, rises_side, wakes_side}
+use Rattle.psci_control.proofs.Commanded.{writes_side}
 use Rattle.psci_control.proofs.Asked.{orders_power}
 use Rattle.psci_control.proofs.laws.law_control.Goals as goal
 

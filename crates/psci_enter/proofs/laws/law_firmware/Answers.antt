@@ -1,9 +1,8 @@
 -- What a core asks of the firmware keeps the rules of the port, and is true.
 use Rattle.psci_headline.specs.Laws.{NoneRefused}
 use Rattle.psci_port.specs.Port.{Finishes, state}
-use Rattle.psci_port.proofs.Mirrors.{IsMirror}
+use Rattle.psci_port.proofs.Truth.{IsMirror, run_world}
 use Rattle.psci_port.proofs.Running.{run_kept}
-use Rattle.psci_port.proofs.Truth.{run_world}
 use Rattle.psci_enter.specs.SideOf.{core_of}
 use Rattle.psci_enter.proofs.Ending.{call_passes, called_done, calls_so, entered_done, enters_so}
 use Rattle.psci_enter.proofs.Ending.{entry_passes, lost_ack, taken_done, takes_so}
@@ -11,7 +10,7 @@ use Rattle.psci_enter.proofs.Others.{sends_again}
 use Rattle.psci_world_spec.proofs.Answered.{firmware_legal}
 use Rattle.psci_world_spec.specs.Legal.{firmware_history}
 use Rattle.psci_fw_spec.specs.Effects.{sent_messages}
-use Rattle.psci_enter.proofs.Standing.{firmware_after, rightly}
+use Rattle.psci_enter.proofs.Keeping.{firmware_after, rightly}
 use Rattle.psci_fw_laws.proofs.Histories.{legal_holds}
 use Rattle.psci_enter.proofs.laws.law_firmware.Goals as goal
 

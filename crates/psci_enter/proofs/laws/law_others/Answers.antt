@@ -6,13 +6,11 @@ use Rattle.psci_ctl_spec.specs.Values.{Values as Controlled}
 use Rattle.psci_fw_spec.specs.Values.{Values}
 use Rattle.psci_world_spec.specs.Legal.{firmware_history}
 use Rattle.psci_port.specs.Port.{Delivers, state, step}
-use Rattle.psci_port.proofs.Mirrors.{IsMirror}
+use Rattle.psci_port.proofs.Truth.{IsMirror, run_world}
 use Rattle.psci_port.proofs.Running.{run_kept}
-use Rattle.psci_port.proofs.Truth.{run_world}
 use Rattle.psci_enter.proofs.Keeping.{anew_cold, anew_end, anew_reboot, delivers_firmware}
-use Rattle.psci_enter.proofs.Keeping.{quiet_firmware}
+use Rattle.psci_enter.proofs.Keeping.{firmware_after, quiet_firmware, side_after}
 use Rattle.psci_enter.proofs.Others.{apart_side, delivers_side, ended_side, first_side, resets_own}
-use Rattle.psci_enter.proofs.Standing.{firmware_after, side_after}
 use Rattle.psci_enter.proofs.laws.law_others.Goals as goal
 
 pub returns-clause-begins : goal.returns-clause-begins

@@ -1,6 +1,6 @@
 -- What a core does by itself keeps the rules of the port.
-use Rattle.psci_enter.proofs.Standing.{arms, by_look, free, hears, rests, rests_armed, rightly}
-use Rattle.psci_enter.proofs.Standing.{rises, rouses, sleeps, stands, takes_up, turns, woken_at}
+use Rattle.psci_enter.proofs.Keeping.{arms, by_look, free, hears, rests, rests_armed, rightly}
+use Rattle.psci_enter.proofs.Keeping.{rises, rouses, sleeps, stands, takes_up, turns, woken_at}
 use Rattle.psci_port.specs.Port.{state, words}
 use Rattle.psci_enter.specs.SideOf.{core_of}
 use Rattle.psci_port.proofs.Running.{run_kept}

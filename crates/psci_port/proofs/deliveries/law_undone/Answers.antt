@@ -1,25 +1,17 @@
 -- What a delivery leaves to be done.
-use Rattle.std.proofs.Common.{◌∙◌, ◌≡◌, List, Some, ap, subst, ℕ}
-use Rattle.psci_board.specs.Board.{BoardValue, IsBoard}
-use Rattle.psci_ctl_spec.specs.History.{IsSendable}
 use Rattle.psci_ctl_spec.specs.Values as controlled
 use Rattle.psci_ctl_spec.specs.declared.call.CtlCall.TheVariants as asked
-use Rattle.psci_ctl_spec.specs.psci_messages.Message.{MessageValue}
-use Rattle.psci_world_spec.specs.Legal.{controller_values, firmware_values, place, sent}
-use Rattle.psci_headline.specs.psci_fw_laws.Messages.{IsSound}
-use Rattle.psci_headline.specs.psci_fw_spec.Changes.{in_life}
+use Rattle.psci_world_spec.specs.Legal.{place, sent}
 use Rattle.psci_headline.proofs.Carried.{Given, is_given, present_known}
-use Rattle.psci_headline.proofs.Controls.{IsKnown}
-use Rattle.psci_headline.proofs.Sending.{at_number, sendable}
-use Rattle.psci_port.specs.Port.{Act, Port, state}
-use Rattle.psci_port.specs.Rules.{AreTrue, IsPortRun}
-use Rattle.psci_port.proofs.Mirrors.{IsMirror}
-use Rattle.psci_port.proofs.Truth.{run_world}
+use Rattle.psci_port.specs.Port.{state}
+use Rattle.psci_port.proofs.Words.{◌∙◌, ◌≡◌, Act, ap, AreTrue, at_number, BoardValue}
+use Rattle.psci_port.proofs.Words.{controller_values, firmware_values, in_life, IsBoard, IsKnown}
+use Rattle.psci_port.proofs.Words.{IsPortRun, IsSendable, IsSound, List, MessageValue, Port}
+use Rattle.psci_port.proofs.Words.{sendable, size_laws, Some, subst, values_more, ℕ}
+use Rattle.psci_port.proofs.Truth.{IsMirror, run_world}
 use Rattle.psci_port.proofs.Undone.{leaves, listed}
-use Rattle.psci_board.proofs.Paths.{size_laws}
 use Rattle.psci_ctl_spec.proofs.Depths.{follows}
 use Rattle.psci_ctl_spec.proofs.Steps as controls
-use Rattle.psci_headline.proofs.fw_spec.Stopping.{values_more}
 use Rattle.psci_port.proofs.deliveries.law_undone.Goals as goal
 
 module _ (b : BoardValue) (acts : List Act) (board : IsBoard b)

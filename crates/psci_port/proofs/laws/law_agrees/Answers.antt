@@ -1,21 +1,14 @@
 -- Once a port is at rest, its machine and the firmware agree.
-use Rattle.psci_ctl_spec.specs.History.{IsSendable}
-use Rattle.psci_ctl_spec.specs.psci_messages.Message.{MessageValue}
-use Rattle.psci_headline.specs.psci_fw_laws.Messages.{IsSound}
-use Rattle.psci_headline.proofs.Sending.{sendable}
-use Rattle.psci_headline.proofs.Nexts.{SettleLaws}
-use Rattle.psci_port.specs.Port.{Port, state}
-use Rattle.psci_port.specs.Resting.{IsAtRest}
+use Rattle.psci_port.specs.Port.{state}
+use Rattle.psci_port.proofs.Words.{IsAtRest, IsSendable, IsSound, MessageValue, Port, sendable}
+use Rattle.psci_port.proofs.Words.{SettleLaws, size_laws, values_more}
 use Rattle.psci_port.proofs.Undoing.{heard}
-use Rattle.psci_port.proofs.Mirrors.{IsMirror}
+use Rattle.psci_port.proofs.Truth.{IsMirror, run_world}
 use Rattle.psci_port.proofs.Running.{at_rest, run_kept}
-use Rattle.psci_port.proofs.Served.{agreed}
-use Rattle.psci_port.proofs.Truth.{run_world}
-use Rattle.psci_port.proofs.Started.{run_on, run_valued}
-use Rattle.psci_board.proofs.Paths.{size_laws}
+use Rattle.psci_port.proofs.Undone.{agreed}
+use Rattle.psci_port.proofs.Rows.{run_on, run_valued}
 use Rattle.psci_ctl_spec.proofs.Depths.{change_kept, first_kept, reply_kept}
 use Rattle.psci_ctl_spec.proofs.Steps as controls
-use Rattle.psci_headline.proofs.fw_spec.Stopping.{values_more}
 use Rattle.psci_headline.proofs.OnBoards.{settle_laws}
 use Rattle.psci_headline.proofs.Confirmed.{whole}
 use Rattle.psci_port.proofs.laws.law_agrees.Goals as goal

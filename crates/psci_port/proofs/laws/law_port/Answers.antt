@@ -1,6 +1,6 @@
 -- The history of a port's run is legal and safe, and begins anew after a reboot.
-use Rattle.psci_port.specs.Kept.{runs}
 use Rattle.psci_port.specs.Port.{state}
+use Rattle.psci_port.proofs.Words.{runs}
 use Rattle.psci_port.proofs.Rebooting.{are_rebooted}
 use Rattle.psci_port.proofs.Truth.{all_safe, run_legal}
 use Rattle.psci_port.proofs.laws.law_port.Goals as goal

@@ -1,5 +1,5 @@
 -- Power goes under no core that executes.
-use Rattle.psci_port.proofs.Powering.{run_none_cut}
+use Rattle.psci_port.proofs.Power.{run_none_cut}
 use Rattle.psci_port.proofs.laws.law_power.Goals as goal
 
 pub returns : goal.returns

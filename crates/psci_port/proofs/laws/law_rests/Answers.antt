@@ -1,10 +1,9 @@
 -- Each act that is due leaves less to do; where none is due, the port is at rest.
 use Rattle.psci_port.specs.Port.{state}
 use Rattle.psci_port.proofs.Lowering.{run_lowers}
-use Rattle.psci_port.proofs.Mirrors.{IsMirror}
+use Rattle.psci_port.proofs.Truth.{IsMirror, run_world}
 use Rattle.psci_port.proofs.Running.{at_rest, run_kept}
-use Rattle.psci_port.proofs.Truth.{run_world}
-use Rattle.psci_port.proofs.Started.{run_on, run_valued}
+use Rattle.psci_port.proofs.Rows.{run_on, run_valued}
 use Rattle.psci_port.proofs.laws.law_rests.Goals as goal
 
 pub returns-clause-lowers : goal.returns-clause-lowers

@@ -1,15 +1,12 @@
 -- Each step keeps the machine a machine of a port, and what holds of the port holds of it.
-use Rattle.psci_board.specs.Board.{BoardValue, IsBoard}
 use Rattle.psci_port.proofs.Truth.{run_world}
-use Rattle.psci_port.proofs.Started.{run_valued}
-use Rattle.psci_sides.proofs.Agreeing.{agree}
-use Rattle.psci_sides.proofs.Finite.{finite}
-use Rattle.psci_sides.proofs.Frames.{all_served, left_serves}
-use Rattle.psci_sides.proofs.Resting.{resting}
+use Rattle.psci_port.proofs.Rows.{run_valued}
+use Rattle.psci_sides.proofs.Words.{BoardValue, IsBoard}
+use Rattle.psci_sides.proofs.Sound.{agree, resting, sound}
+use Rattle.psci_sides.proofs.Finite.{all_served, finite, left_serves}
 use Rattle.psci_sides.proofs.Settling.{settles}
 use Rattle.psci_sides.proofs.Carrying.{Given}
 use Rattle.psci_sides.proofs.Restarting.{run_seen, run_takes}
-use Rattle.psci_sides.proofs.Sound.{sound}
 use Rattle.psci_sides.proofs.laws.law_sides.Goals as goal
 use Rattle.psci_sides.proofs.laws.law_sides.Goals.{After-law_others}
 
