@@ -85,18 +85,18 @@ static void *play(void *argument) {
     struct psci_answer answer;
     for (;;) {
         pthread_mutex_lock(&lock);
-        bool is_over = life != GOES_ON, enters = core->is_open && !is_over;
-        bool waits = !is_over && !enters && !core->executes && !core->how.wakes;
+        bool leaves = life != GOES_ON, enters = core->is_open && !leaves;
+        bool waits = !leaves && !enters && !core->executes && !core->how.wakes;
         if (waits)
             pthread_cond_wait(&core->bell, &lock);
         if (enters)
             enter(core, &answer);
         pthread_mutex_unlock(&lock);
-        if (is_over && !next_life(core))
+        if (leaves && !next_life(core))
             return 0;
         if (enters)
             begin(core, &answer, MEMORY + TREE);
-        else if (!is_over && !waits)
+        else if (!leaves && !waits)
             run_once(core);
     }
 }
