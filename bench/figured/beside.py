@@ -3,7 +3,7 @@ import subprocess
 import sys
 
 from figured.calls import BOARD, PAGE
-from figured.pages import TOP, Table, grouped
+from figured.pages import TOP, Sentence, Table, grouped
 from figured.turns import DENIED, INITIATED, MODES, SHAPES, SLEEP, TURNS
 
 HEAD = "Instructions, turns beside TF-A"
@@ -46,3 +46,15 @@ def table(turns, room):
         rows += [[f"{turn}: {who}", *(it.get(name) for it in boards)] for who, boards in found.items()
                  if name not in NOT_IN_2_8 or PEERS[who] != "tfa"]
     return Table(PAGE, [HEAD, *BOARD], rows)
+
+
+def sentences(tables):
+    """What README says of one turn: of the library with 4 cores, which 256 leave as it is, and of TF-A 2.12 with both."""
+    rows = {row[0]: row[1:] for it in tables if it.head[0] == HEAD for row in it.rows}
+    ours, theirs = rows[f"{TURNS['on']}: the library"], rows["CPU_ON, entry, CPU_OFF: TF-A 2.12"]
+    found = [Sentence("README.md", "CPU_ON, entry, CPU_OFF and acknowledgement take", "instructions with 4 cores and with 256.",
+                      ours[0] if ours[0] == ours[2] else f"{ours[0]} to {ours[2]}")]
+    if theirs[0]:
+        found += [Sentence("README.md", "which acknowledges nothing, takes", "and", theirs[0]),
+                  Sentence("README.md", "and", "without locks and hooks", theirs[2])]
+    return found

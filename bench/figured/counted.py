@@ -2,7 +2,7 @@
 import json
 import os
 
-from figured import calls, library, pages
+from figured import beside, calls, library, pages
 
 
 class Counted:
@@ -15,7 +15,7 @@ class Counted:
     def tables(self):
         most = calls.dearest(self.replayed)
         return [library.stack_table(self.bounds, self.stepped), *calls.tables(most), *self.fixed,
-                *library.sentences(self.bounds)]
+                *library.sentences(self.bounds), *beside.sentences(self.fixed)]
 
     def wrong(self, read):
         """What the pages say otherwise, and what no page may say."""

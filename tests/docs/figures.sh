@@ -19,6 +19,7 @@ overlooked() {
     mkdir -p "$work/pages/docs/maintain" "$work/pages/docs/port"
     cp docs/maintain/COSTS.md "$work/pages/docs/maintain"
     cp docs/port/REFERENCE.md docs/port/TFA.md "$work/pages/docs/port"
+    cp README.md "$work/pages"
     sed -i "$3" "$work/pages/docs/$2"
     if cmp -s "docs/$2" "$work/pages/docs/$2"; then fail "docs/$2 has no such line: $3"; return; fi
     recounted "$1" "$work/figures" --pages "$work/pages" -- "$4"
@@ -55,6 +56,8 @@ figures() {
         'CPU_SUSPEND, OS-initiated, 256: docs/maintain/COSTS.md says 1,199'
     overlooked "a call is not there" maintain/COSTS.md '/^| SYSTEM_SUSPEND, stops |/d' 'SYSTEM_SUSPEND, stops: docs/maintain/COSTS.md does not say'
     overlooked "a call that there is not" maintain/COSTS.md 's/^| CPU_OFF, stops |/| CPU_GONE, stops |/' 'CPU_GONE, stops: .* there is none'
+    overlooked "a turn on the first page takes less" ../README.md 's/take 1,152 instructions/take 1,052 instructions/' \
+        'README.md says 1,052'
     overlooked "a turn takes less" maintain/COSTS.md 's/^\(| SYSTEM_SUSPEND, wake-up | \)[0-9,]*/\1600/' 'wake-up, 4 cores: .* says 600'
     overlooked "a turn beside TF-A takes less" maintain/COSTS.md \
         's/^\(| CPU_SUSPEND to the system, OS-initiated, denied: the library | \)[0-9,]*/\1399/' \
